@@ -1,0 +1,3 @@
+-- What the lines hold: first the names, then the lines.
+pub mod Escaped
+pub mod Lines
