@@ -17,3 +17,4 @@ pub mod Laws
 pub mod Subtrees
 pub mod Shows
 pub mod Passing
+pub mod Order

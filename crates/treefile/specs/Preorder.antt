@@ -1,9 +1,10 @@
 -- The check of the tree, told node by node: the first fault in preorder, each node tested alone.
 use mathlib.Core.Bool.{cond}
-use mathlib.Core.List.{List, [], _∷_, _++_}
+use mathlib.Core.List.{List, [], _∷_, _++_, map}
 use mathlib.Core.Path.{_≡_}
 use Prim.Native.Nat.{ℕ, zero, suc, _+_}
 use lib.Dec.{leb}
+use Rattle.std.specs.Iters.{counting}
 use Rattle.std.specs.declared.result.Result.the-variants.{Ok, Err}
 use Rattle.treefile.specs.declared.stand.Stand.{Stand}
 use Rattle.treefile.specs.declared.trailer.Trailer.{Trailer}
@@ -36,3 +37,7 @@ firstAlone bs t (s ∷ ss) = andThen (alone bs t s) (firstAlone bs t ss)
 abbrev pub FirstInPreorder : List ℕ → Trailer → Type 0
 FirstInPreorder bs t =
     treeCheck bs t ≡ cond (rootFits bs t) (firstAlone bs t (preorder bs t 200 1 0)) (Err (slotsFault bs t 0))
+
+-- of a file that passes, these nodes are its records, each once and in their order
+abbrev pub AllInOrder : List ℕ → Trailer → Type 0
+AllInOrder bs t = map (λ s. s .node) (preorder bs t 200 1 0) ≡ counting 0 (t .«record_count»)

@@ -4,7 +4,8 @@ use mathlib.Core.List.{List, [], _∷_}
 use Prim.Native.Nat.{ℕ, _+_}
 use lib.Dec.{eqb, ltb}
 use lib.ListN.{take}
-use denote.Ref.{RefT}
+use denote.Ref.{RefT, now}
+use Rattle.std.specs.Options.{mapped}
 use Rattle.std.specs.declared.option.Option.{Option}
 use Rattle.std.specs.declared.option.Option.the-variants.{Some, None}
 use Rattle.treefile.specs.declared.node.Case.{Case}
@@ -31,8 +32,7 @@ says kind form name places = record { kind = kind; form = form; name = name; pla
 
 -- the bytes that a name borrows
 abbrev pub held : Option (RefT (List ℕ)) → Option (List ℕ)
-held (Some r) = Some (r .now)
-held None = None
+held o = mapped now o
 
 abbrev pub saidBy : Case → Said
 saidBy case.Absent = says 0 0 None []

@@ -3,7 +3,7 @@ ghost use Prim.Native.Nat.{_-_, _≤_};
 ghost use Rattle.std.specs.Of.Vec.{vec-items};
 ghost use Rattle.std.specs.Vec.{made};
 ghost use Rattle.treefile.specs.Passing.{Passes};
-ghost use Rattle.treefile.specs.Preorder.{preorder};
+ghost use Rattle.treefile.specs.Preorder.{AllInOrder, preorder};
 ghost use mathlib.Core.List.{_++_};
 ghost use mathlib.Core.Path.{_≡_};
 use super::records::size_at;
@@ -36,7 +36,8 @@ fn push_nodes(
 impl Tree<'_> {
     // All nodes in preorder, each with its depth.
     pub fn nodes(&self, heap: Global) -> Result<Vec<Stand>, AllocError>
-        ensures { λ r. ⌜ made r (λ v. vec-items v ≡ preorder (now (self .entry) .file .now) (now (self .entry) .trailer) 200 1 0) ⌝ }
+        ensures nodes { λ r. ⌜ made r (λ v. vec-items v ≡ preorder (now (self .entry) .file .now) (now (self .entry) .trailer) 200 1 0) ⌝ }
+        ensures order { λ _. ⌜ AllInOrder (now (self .entry) .file .now) (now (self .entry) .trailer) ⌝ }
     {
         let mut out = Vec::new(heap);
         push_nodes(self, &mut out, 0, 1)?;
