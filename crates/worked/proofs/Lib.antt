@@ -1,0 +1,3 @@
+-- The worked files, computed.
+pub mod Cases
+pub mod Deep
