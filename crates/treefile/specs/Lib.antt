@@ -1,5 +1,5 @@
--- What a tree file means. Read in this order: Words, Faults, First, Trailer, Names, Kinds, Records, Slots, Fits, Checked;
--- then the theorems above them: Preorder, Trees, Spelling, Laws; then what a node shows: Shown.
+-- What a tree file means. Read in this order: the format and its tests up to Checked; the theorems above them, Preorder to
+-- Laws, of which Laws has the main statement; what a node shows; and Passing, for a recursion over a checked tree.
 pub mod Words
 pub mod Faults
 pub mod First
@@ -14,6 +14,6 @@ pub mod Preorder
 pub mod Trees
 pub mod Spelling
 pub mod Laws
+pub mod KindWords
 pub mod Shown
 pub mod Passing
-pub mod KindWords

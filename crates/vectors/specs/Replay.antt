@@ -4,7 +4,7 @@ use mathlib.Core.Path.{_≡_}
 use Prim.Native.Nat.{ℕ, _<_}
 use lib.Chars.{codes}
 use lib.ListN.{length, getD}
-use Rattle.std.specs.Written.{decimal}
+use Rattle.listing.specs.Lines.{faultLine}
 use Rattle.std.specs.declared.option.Option.{Option}
 use Rattle.std.specs.declared.option.Option.the-variants.{Some, None}
 use Rattle.std.specs.declared.result.Result.{Result}
@@ -18,8 +18,7 @@ use Rattle.vectors.specs.Hex.{bytesOf}
 -- a title with what the check answers: `passes`, or `R` with the fault's number, node and row
 abbrev pub answerLine : List ℕ → Result Trailer TreeFault → List ℕ
 answerLine title (Ok t) = title ++ codes " passes"
-answerLine title (Err f) =
-    title ++ (codes " R " ++ (decimal (numberOf (f .reason)) ++ (codes " " ++ (decimal (f .node) ++ (codes " " ++ decimal (f .row))))))
+answerLine title (Err f) = title ++ (codes " " ++ faultLine (numberOf (f .reason)) (f .node) (f .row))
 
 -- the same for a file in hexadecimal
 abbrev pub fileLine : List ℕ → Option (List ℕ) → List ℕ

@@ -4,6 +4,8 @@ ghost use Rattle.std.specs.Vec.{made};
 ghost use Rattle.vectors.specs.Replay.{Answered, answerLine, replayed};
 ghost use mathlib.Core.Path.{_≡_};
 use super::hex::bytes_of;
+use listing::lines::FaultLine;
+use listing::lines::FaultLineDisplay;
 use std::alloc::AllocError;
 use std::alloc::Global;
 use treefile::check::check;
@@ -21,10 +23,12 @@ fn answer_line(
     match answer {
         Ok(_) => format!(heap, "{title} passes"),
         Err(fault) => {
-            let number = fault.number();
-            let node = fault.node;
-            let row = fault.row;
-            format!(heap, "{title} R {number} {node} {row}")
+            let line = FaultLine {
+                number: fault.number(),
+                node: fault.node,
+                row: fault.row,
+            };
+            format!(heap, "{title} {line}")
         }
     }
 }
