@@ -6,17 +6,15 @@ use Prim.Native.Nat.{ℕ, _+_, _≤_}
 use native.Mathlib.Omega.{arith}
 use lib.Dec.{leb, ltb, eqb}
 use lib.ListN.{length}
-use Rattle.std.proofs.shelf.Tests.{lt-ltb, le-ltb, le-leb, leb-true, and-parts, and-from, and-left}
+use Rattle.std.proofs.shelf.Tests.{lt-ltb, le-ltb, le-leb, and-from, and-left}
 use Rattle.treefile.specs.declared.trailer.Trailer.{Trailer}
 use Rattle.treefile.specs.Records.{kindAt, sizeAt}
 use Rattle.treefile.specs.Slots.{V, G, asksList, element, single, columns}
 use Rattle.treefile.specs.Fits.{endOf, within, children, elementsFit, listFits, secondAbsent, bareArg, takes, slotFits, slotsFit, fits}
 use Rattle.treefile.specs.Trees.{Label, Tree, node, Trees, none, more, treeRecords, treesRecords, kindOf, some, allElements, secondIsAbsent, takesTree, slotted}
 use Rattle.treefile.specs.Spelling.{StandsAt, RowAt}
+use Rattle.treefile.proofs.Verdicts.{and-true}
 use Rattle.treefile.proofs.Walking.{places, Inside, FirstOf, inside, row-first, children-places}
-
-pub and-true : (x y : Bool) → x ≡ true → (x && y) ≡ y
-and-true x y e = ap (λ (b : Bool). b && y) e
 
 and-same : (a b c d : Bool) → a ≡ b → c ≡ d → (a && c) ≡ (b && d)
 and-same a b c d e f = ap (λ (x : Bool). x && c) e ∙ ap (λ (x : Bool). b && x) f
@@ -31,11 +29,6 @@ cond-same false x y u v e f = f
 module _ (bs : List ℕ) (t : Trailer) where
   pub within-true : (end p : ℕ) → 1 ≤ sizeAt bs t p → endOf bs t p ≤ end → within bs t end p ≡ true
   within-true end p h k = and-from (leb 1 (sizeAt bs t p)) (leb (endOf bs t p) end) (le-leb 1 (sizeAt bs t p) h) (le-leb (endOf bs t p) end k)
-
-  pub within-parts : (end p : ℕ) → within bs t end p ≡ true → (1 ≤ sizeAt bs t p) × (endOf bs t p ≤ end)
-  within-parts end p e =
-      let q = and-parts (leb 1 (sizeAt bs t p)) (leb (endOf bs t p) end) e in
-      (leb-true 1 (sizeAt bs t p) (q .0), leb-true (endOf bs t p) end (q .1))
 
   -- the first of a row lies within the row's end
   row-within :

@@ -15,7 +15,7 @@ use Rattle.treefile.specs.Slots.{X, B, V, G, asksList, element, single, column
 use Rattle.treefile.specs.Trees.{Label, Tree, node, Trees, none, more, treeRecords, height, heights, kindOf, some, allElements, takesTree, slotted, wellFormed, allWellFormed}
 use Rattle.treefile.specs.Spelling.{StandsAt, RowAt, Spells, Admitted, recordsFrom}
 use Rattle.treefile.proofs.Walking.{places, row-first, from-length}
-use Rattle.treefile.proofs.Spelling.{single-no-list, element-no-list}
+use Rattle.treefile.proofs.Sorts.{single-no-list, element-no-list}
 
 -- the subtrees of a node that is no List stand in its slots, one for each
 pub formed-slots :

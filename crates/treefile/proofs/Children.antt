@@ -1,22 +1,19 @@
 -- The loops over the children of a node: the elements of a List, and the slots of another node.
 use mathlib.Core.Path.{_≡_, refl, sym, ap, _∙_}
-use mathlib.Core.Bool.{Bool, true, false, cond, _&&_}
+use mathlib.Core.Bool.{Bool, true, false, _&&_}
 use mathlib.Core.List.{List, [], _∷_}
 use mathlib.Core.Logic.{⊎-elim}
 use Prim.Native.Nat.{ℕ, _+_, _<_, _≤_}
-use lib.Dec.{eqb, ltb}
+use lib.Dec.{eqb}
 use lib.ListN.{length, getD, drop}
-use native.Mathlib.Omega.{arith}
 use Rattle.std.proofs.shelf.Lists.{getD-past, drop-all, drop-more}
 use Rattle.std.proofs.shelf.Tests.{and-left, and-parts, cases-eq, cases-lt, cond-false, eq-eqb, ne-eqb}
 use Rattle.treefile.specs.declared.trailer.Trailer.{Trailer}
 use Rattle.treefile.specs.Records.{kindAt, sizeAt}
 use Rattle.treefile.specs.Slots.{columns, element}
 use Rattle.treefile.specs.Fits.{endOf, within, children, elementsFit, takes, slotFits, slotsFit, fits}
-use Rattle.treefile.proofs.Steps.{rest, Walked, lies-within, walked-none, walked-more, rest-none, rest-more, rest-all}
-
-and-true : (x y : Bool) → x ≡ true → (x && y) ≡ y
-and-true x y e = ap (λ (b : Bool). b && y) e
+use Rattle.treefile.proofs.Verdicts.{and-true}
+use Rattle.treefile.proofs.Steps.{rest, Walked, walked-none, walked-more, rest-none, rest-more, rest-all}
 
 -- the elements of i before pos fit
 pub record Elements (bs : List ℕ) (t : Trailer) (letter i pos : ℕ) : Type 0 where

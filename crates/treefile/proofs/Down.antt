@@ -1,12 +1,11 @@
 -- The steps of the tree check at a node and over its children.
 use mathlib.Core.Path.{_≡_, refl, sym, ap, subst, _∙_}
-use mathlib.Core.Bool.{Bool, true, false, cond, _&&_}
-use mathlib.Core.List.{List, [], _∷_}
+use mathlib.Core.Bool.{true, false}
+use mathlib.Core.List.{List, _∷_}
 use mathlib.Core.Logic.{⊎-elim}
 use Prim.Native.Nat.{ℕ, zero, suc, _+_, _-_, _<_, _≤_}
-use lib.Dec.{eqb}
 use native.Mathlib.Omega.{arith}
-use Rattle.std.proofs.shelf.Tests.{and-parts, cases-eq, cond-true, cond-false}
+use Rattle.std.proofs.shelf.Tests.{cases-eq, cond-true, cond-false}
 use Rattle.std.specs.declared.result.Result.the-variants.{Ok, Err}
 use Rattle.treefile.specs.declared.fault.TreeFault.{TreeFault}
 use Rattle.treefile.specs.declared.trailer.Trailer.{Trailer}
@@ -14,7 +13,7 @@ use Rattle.treefile.specs.Faults.{Verdict}
 use Rattle.treefile.specs.First.{andThen, firstFault}
 use Rattle.treefile.specs.Records.{kindAt, sizeAt}
 use Rattle.treefile.specs.Slots.{columns}
-use Rattle.treefile.specs.Fits.{endOf, within, children, slotsFit, fits, slotsFault, depthFault, nodeCheck, Stands, Tiled}
+use Rattle.treefile.specs.Fits.{endOf, within, children, fits, slotsFault, depthFault, nodeCheck, Stands, Tiled}
 use Rattle.treefile.proofs.Steps.{rest, Walked, lies-within, walked-none, walked-more, rest-none, rest-more, rest-all, smaller}
 use Rattle.treefile.proofs.Children.{fits-slots}
 use Rattle.treefile.proofs.Sorts.{Sorted, AllSorted, slots-sorted, elements-sorted}

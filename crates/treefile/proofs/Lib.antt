@@ -1,3 +1,4 @@
+pub mod Verdicts
 pub mod Firsts
 pub mod Table
 pub mod Dots

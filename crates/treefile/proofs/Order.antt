@@ -1,14 +1,13 @@
 -- The nodes of a checked file in preorder are its records in their order.
 use mathlib.Core.Path.{_≡_, refl, sym, ap, _∙_}
-use mathlib.Core.List.{List, [], _∷_, _++_, map}
-use Prim.Native.Nat.{ℕ, zero, suc, _+_, _<_, _≤_}
+use mathlib.Core.List.{List, _∷_, _++_, map}
+use Prim.Native.Nat.{ℕ, zero, suc, _+_, _≤_}
 use lib.ListN.{length}
 use native.Mathlib.Omega.{arith}
 use Rattle.std.proofs.shelf.Lists.{length-append, map-append}
 use Rattle.std.specs.Iters.{counting}
 use Rattle.treefile.specs.declared.stand.Stand.{Stand}
 use Rattle.treefile.specs.declared.trailer.Trailer.{Trailer}
-use Rattle.treefile.specs.Fits.{children}
 use Rattle.treefile.specs.Preorder.{joined, preorder, AllInOrder}
 use Rattle.treefile.specs.Spelling.{StandsAt, RowAt}
 use Rattle.treefile.specs.Trees.{Tree, node, Trees, none, more, treeRecords, treesRecords, height, heights}

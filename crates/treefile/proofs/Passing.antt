@@ -1,41 +1,25 @@
 -- What a recursion over a checked tree needs: the root passes, and so does each child of a node that passes, which is smaller.
-use mathlib.Core.Path.{_≡_, refl, sym, ap, _∙_}
-use mathlib.Core.Bool.{Bool, true, false, cond, _&&_}
+use mathlib.Core.Path.{_≡_, sym, ap, _∙_}
+use mathlib.Core.Bool.{true, cond}
 use mathlib.Core.List.{List, [], _∷_, _++_, append-assoc, append-nil}
 use Prim.Native.Nat.{ℕ, zero, suc, _+_, _-_, _<_, _≤_}
 use lib.Dec.{eqb}
 use native.Mathlib.Omega.{arith}
 use Rattle.std.proofs.shelf.Tests.{and-parts, eqb-true}
 use Rattle.std.specs.declared.result.Result.the-variants.{Ok, Err}
-use Rattle.treefile.specs.declared.fault.TreeFault.{TreeFault}
 use Rattle.treefile.specs.declared.stand.Stand.{Stand}
 use Rattle.treefile.specs.declared.trailer.Trailer.{Trailer}
-use Rattle.treefile.specs.Faults.{Verdict}
-use Rattle.treefile.specs.First.{andThen, firstFault}
+use Rattle.treefile.specs.First.{firstFault}
 use Rattle.treefile.specs.Records.{kindAt, sizeAt}
 use Rattle.treefile.specs.Slots.{X, B}
-use Rattle.treefile.specs.Fits.{endOf, children, takes, fits, nodeCheck, Stands, Tiled}
+use Rattle.treefile.specs.Fits.{endOf, children, takes, fits, slotsFault, depthFault, nodeCheck, Stands}
 use Rattle.treefile.specs.Passing.{Passes}
 use Rattle.treefile.specs.Preorder.{joined, preorder}
 use Rattle.treefile.proofs.Down.{Passed, passed-none, passed-more, child-stands, child-tiled, child-smaller}
 use Rattle.treefile.proofs.Sorts.{tiled-by}
 use Rattle.treefile.proofs.Sound.{Sound}
+use Rattle.treefile.proofs.Verdicts.{never, then-ok, cond-ok}
 use Rattle.treefile.proofs.Steps.{rest, rest-none, rest-more, rest-all}
-
-never : {X : Type 0} (e : TreeFault) → _≡_ {A = Verdict} (Err e) (Ok tt) → X
-never e h = let z : _≡_ {A = ℕ} 0 1 = cc in absurd (omega arith)
-
-then-ok : (v w : Verdict) → andThen v w ≡ Ok tt → (v ≡ Ok tt) × (w ≡ Ok tt)
-then-ok (Ok u) w h = (refl, h)
-then-ok (Err e) w h = never e h
-
-cond-ok : (b : Bool) (x : Verdict) (e : TreeFault) → cond b x (Err e) ≡ Ok tt → (b ≡ true) × (x ≡ Ok tt)
-cond-ok true x e h = (refl, h)
-cond-ok false x e h = never e h
-
-neither-ok : (b : Bool) (d e : TreeFault) → _≡_ {A = Verdict} (cond b (Err d) (Err e)) (Ok tt) → ⊥
-neither-ok true d e h = never d h
-neither-ok false d e h = never e h
 
 module _ (bs : List ℕ) (t : Trailer) where
   -- the root of a file that passes
@@ -54,7 +38,7 @@ module _ (bs : List ℕ) (t : Trailer) where
     -- a node that passes has a level, fits, and has children that pass
     pub passes-down : (levels : ℕ) → nodeCheck bs t levels i ≡ Ok tt → (0 < levels) × (fits bs t i ≡ true) × (firstFault (nodeCheck bs t (levels - 1)) (children bs t i) ≡ Ok tt)
     unfolding nodeCheck
-    passes-down zero h = absurd (neither-ok (fits bs t i) _ _ h)
+    passes-down zero h = never (depthFault bs t i) tt (cond-ok (fits bs t i) (Err (depthFault bs t i)) (slotsFault bs t i) h .1)
     passes-down (suc n) h =
         let p = cond-ok (fits bs t i) _ _ h in
         let e : n ≡ suc n - 1 = omega arith in

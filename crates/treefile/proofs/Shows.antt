@@ -1,33 +1,32 @@
 -- What is read of a node of a checked file is what its record says and where its children stand.
 use mathlib.Core.Path.{_≡_, refl, sym, ap, subst, _∙_}
-use mathlib.Core.Bool.{Bool, true, false, cond, _||_, _&&_}
+use mathlib.Core.Bool.{Bool, true, false, cond, _&&_}
 use mathlib.Core.List.{List, [], _∷_}
-use mathlib.Core.Logic.{⊎-elim, inl, inr}
+use mathlib.Core.Logic.{⊎-elim}
 use Prim.Native.Nat.{ℕ, zero, suc, _+_, _<_, _≤_}
 use lib.Dec.{eqb, ltb}
 use lib.ListN.{length, take}
 use native.Mathlib.Omega.{arith}
-use Rattle.std.proofs.shelf.Tests.{and-parts, cases-eq, cond-true, cond-false, eq-eqb, ne-eqb, lt-ltb, ltb-true, eqb-true, or-cases, true≢false}
+use Rattle.std.proofs.shelf.Tests.{and-parts, cases-eq, cond-true, cond-false, eq-eqb, ne-eqb, lt-ltb, ltb-true, true≢false}
 use Rattle.std.proofs.shelf.Ways.{tells}
 use Rattle.std.proofs.shelf.Lists.{length-append}
-use Rattle.std.specs.declared.option.Option.{Option}
 use Rattle.std.specs.declared.option.Option.the-variants.{Some, None}
 use Rattle.treefile.specs.declared.kind.Naming.the-variants.{Never, Always, Sometimes}
 use Rattle.treefile.specs.declared.trailer.Trailer.{Trailer}
-use Rattle.treefile.specs.Fits.{endOf, children}
+use Rattle.treefile.specs.Fits.{children}
 use Rattle.treefile.specs.Kinds.{known, needsName, mayHaveName, namingOf}
 use Rattle.treefile.specs.Names.{nameBytes}
-use Rattle.treefile.specs.Records.{kindAt, formAt, sizeAt, nameNumber, rowAt, formOk, fillerOk, dotsOk, namedBy, namingOk, recordOk}
-use Rattle.treefile.specs.Shown.{Said, Shown, inRow, placesAt, nodeAt, arity, afterPlace, placesAfter, slotPlaces, nameOr, maybeName, kindName, saidOf}
+use Rattle.treefile.specs.Records.{kindAt, formAt, nameNumber, rowAt, formOk, fillerOk, dotsOk, namedBy, namingOk, recordOk}
+use Rattle.treefile.specs.Shown.{inRow, placesAt, nodeAt, arity, afterPlace, placesAfter, slotPlaces, kindName, saidOf}
 use Rattle.treefile.specs.Slots.{columns}
-use Rattle.treefile.specs.Spelling.{nameAt, labelAt, StandsAt, RowAt}
+use Rattle.treefile.specs.Spelling.{StandsAt, RowAt}
 use Rattle.treefile.specs.Trees.{Label, Tree, node, Trees, none, more, treeRecords, treesRecords, slotted, takesTree, wellFormed}
 use Rattle.treefile.proofs.Checked.{formed-slots, spelled-stands}
 use Rattle.treefile.proofs.Sound.{Sound}
 use Rattle.treefile.proofs.Spelling.{spelling-rule}
 use Rattle.treefile.proofs.Subtrees.{Rooted, tree-at}
 use Rattle.treefile.proofs.Table.{arity-columns}
-use Rattle.treefile.proofs.Walking.{places, from-length, inside, row-first, children-places, stands-kind, stands-size}
+use Rattle.treefile.proofs.Walking.{places, from-length, inside, row-first, children-places}
 
 -- a record in order: its form, and its name by its kind
 record-parts : (bs : List ℕ) (t : Trailer) (i : ℕ) → recordOk bs t i ≡ true → (formOk (kindAt bs t i) (formAt bs t i) ≡ true) × (namingOk bs t (kindAt bs t i) (nameNumber bs t i) ≡ true)

@@ -1,24 +1,25 @@
 -- What is known of the children of a node that fits: each lies within it, and a List among them has its elements within it.
 use mathlib.Core.Path.{_≡_, refl, sym, ap, _∙_}
-use mathlib.Core.Bool.{Bool, true, false, cond, _||_, _&&_, not}
+use mathlib.Core.Bool.{Bool, true, false, _||_, _&&_, not}
 use mathlib.Core.List.{List, [], _∷_}
-use Prim.Native.Nat.{ℕ, _+_}
+use Prim.Native.Nat.{ℕ}
 use lib.Dec.{eqb, ltb}
 use native.Mathlib.Omega.{arith}
-use Rattle.std.proofs.shelf.Tests.{and-parts, cond-true, cond-false, eq-eqb, true≢false}
+use Rattle.std.proofs.shelf.Tests.{and-parts, cond-true, cond-false, true≢false}
 use Rattle.std.proofs.shelf.Ways.{tells}
 use Rattle.treefile.specs.declared.trailer.Trailer.{Trailer}
 use Rattle.treefile.specs.Records.{kindAt, sizeAt}
 use Rattle.treefile.specs.Slots.{V, G, asksList, element, single}
 use Rattle.treefile.specs.Fits.{endOf, within, children, elementsFit, listFits, secondAbsent, bareArg, takes, slotFits, slotsFit, Tiled}
+use Rattle.treefile.proofs.Verdicts.{neither}
 
--- no letter's elements are Lists
-pub no-list-element : (letter : ℕ) → element letter 1 ≡ false
-no-list-element letter = grind (arith, tells)
+-- a List is an element of no List
+pub element-no-list : (letter : ℕ) → element letter 1 ≡ false
+element-no-list letter = grind (arith, tells)
 
--- a List in a slot is asked for by a list letter
-pub list-asked : (letter : ℕ) → single letter 1 ≡ false
-list-asked letter = grind (arith, tells)
+-- a List stands in no slot that asks for a single node
+pub single-no-list : (letter : ℕ) → single letter 1 ≡ false
+single-no-list letter = grind (arith, tells)
 
 module _ (bs : List ℕ) (t : Trailer) where
   -- a child lies within its parent, and a List has its elements within it
@@ -29,10 +30,6 @@ module _ (bs : List ℕ) (t : Trailer) where
   abbrev pub AllSorted : ℕ → List ℕ → Type 0
   AllSorted end [] = Unit {0}
   AllSorted end (p ∷ ps) = Sorted end p × AllSorted end ps
-
-  neither : (b x y : Bool) → x ≡ false → y ≡ false → cond b x y ≡ false
-  neither true x y ex ey = ex
-  neither false x y ex ey = ey
 
   -- a List that a slot takes has its elements within it
   pub tiled-by : (letter p : ℕ) → takes bs t letter p ≡ true → kindAt bs t p ≡ 1 → Tiled bs t p
@@ -46,7 +43,7 @@ module _ (bs : List ℕ) (t : Trailer) where
           record { letter = letter; elements = d .1 }
       by false e =
           let bare : bareArg bs t p ≡ false = ap (λ (n : ℕ). eqb n 0 || (eqb n 45 && secondAbsent bs t p)) k in
-          let one : single letter (kindAt bs t p) ≡ false = ap (single letter) k ∙ list-asked letter in
+          let one : single letter (kindAt bs t p) ≡ false = ap (single letter) k ∙ single-no-list letter in
           let none : takes bs t letter p ≡ false =
           cond-false (asksList letter) _ _ e ∙ neither (eqb letter V) (bareArg bs t p) (single letter (kindAt bs t p)) bare one in
           absurd (true≢false (sym h ∙ none))
@@ -67,7 +64,7 @@ module _ (bs : List ℕ) (t : Trailer) where
       let w = and-parts (within bs t end p) (element letter (kindAt bs t p)) (q .0) in (
         record {
           inside = w .0;
-          tiled = λ k. absurd (true≢false (sym (w .1) ∙ ap (element letter) k ∙ no-list-element letter));
+          tiled = λ k. absurd (true≢false (sym (w .1) ∙ ap (element letter) k ∙ element-no-list letter));
         },
         elements-sorted letter end ps (q .1),
       )

@@ -16,17 +16,14 @@ use Rattle.treefile.specs.declared.fault.TreeFault.{TreeFault}
 use Rattle.treefile.specs.declared.fault.TreeReason.the-variants.{Frame, Counts}
 use Rattle.treefile.specs.declared.trailer.Trailer.{Trailer}
 use Rattle.treefile.specs.Faults.{Verdict, faultOf}
-use Rattle.treefile.specs.First.{firstBad, refusedAt, andThen}
+use Rattle.treefile.specs.First.{refusedAt, andThen}
 use Rattle.treefile.specs.Trailer.{trailerOf, misframed, miscounted, trailerCheck, Framed}
 use Rattle.treefile.specs.Names.{nameOk, namesCheck}
 use Rattle.treefile.specs.Records.{recordOk, recordsCheck}
 use Rattle.treefile.specs.Fits.{treeCheck}
 use Rattle.treefile.specs.Checked.{keep, framedCheck, fileCheck}
 use Rattle.treefile.proofs.Firsts.{all-ok}
-
--- a fault is no answer
-never : {X T E : Type 0} (e : E) (t : T) → _≡_ {A = Result T E} (Err e) (Ok t) → X
-never e t h = let z : _≡_ {A = ℕ} 0 1 = cc in absurd (omega arith)
+use Rattle.treefile.proofs.Verdicts.{never, then-ok}
 
 not-err : (b : Bool) (e : TreeFault) (x : Result Trailer TreeFault) (t : Trailer) → cond b (Err e) x ≡ Ok t → (b ≡ false) × (x ≡ Ok t)
 not-err true e x t h = never e t h
@@ -53,10 +50,6 @@ trailer-sound bs t h =
     let z = not-err _ (faultOf Counts 0 0) _ t (y .1) in
     let e = same-ok (trailerOf bs) t (z .1) in
     (sym e, subst (Framed bs) e (framed-read bs (x .0) (y .0) (z .0)))
-
-then-ok : (v w : Verdict) → andThen v w ≡ Ok tt → (v ≡ Ok tt) × (w ≡ Ok tt)
-then-ok (Ok u) w h = (refl, h)
-then-ok (Err e) w h = never e tt h
 
 keep-ok : (u t : Trailer) (v : Verdict) → keep u v ≡ Ok t → (u ≡ t) × (v ≡ Ok tt)
 keep-ok u t (Ok x) h = (same-ok u t h, refl)

@@ -1,118 +1,29 @@
 -- The check of the tree passes exactly where the records spell one tree that a file may hold.
 use mathlib.Core.Path.{_≡_, refl, sym, ap, subst, _∙_}
-use mathlib.Core.Bool.{Bool, true, false, cond, _||_, _&&_}
-use mathlib.Core.List.{List, [], _∷_}
+use mathlib.Core.Bool.{true, cond}
+use mathlib.Core.List.{List}
 use mathlib.Core.Logic.{inl, inr}
 use Prim.Native.Nat.{ℕ, zero, suc, _+_, _≤_, _<_}
 use native.Mathlib.Omega.{arith}
 use lib.Dec.{eqb}
 use lib.ListN.{length}
-use Rattle.std.proofs.shelf.Tests.{both-ways, cases-bool, cases-lt, cond-true, cond-false, and-parts, and-from, eqb-true, eq-eqb}
+use Rattle.std.proofs.shelf.Tests.{cases-lt, cond-true, and-parts, and-from, eqb-true, eq-eqb}
 use Rattle.std.specs.declared.result.Result.the-variants.{Ok, Err}
-use Rattle.treefile.specs.declared.fault.TreeFault.{TreeFault}
 use Rattle.treefile.specs.declared.trailer.Trailer.{Trailer}
 use Rattle.treefile.specs.Faults.{Verdict}
 use Rattle.treefile.specs.First.{andThen, firstFault}
 use Rattle.treefile.specs.Records.{kindAt, sizeAt}
-use Rattle.treefile.specs.Slots.{X, B, V, asksList, element, single, columns}
-use Rattle.treefile.specs.Fits.{endOf, within, kids, children, elementsFit, listFits, secondAbsent, bareArg, takes, slotFits, slotsFit, fits, slotsFault, depthFault, nodeCheck, rootFits, treeCheck}
+use Rattle.treefile.specs.Slots.{X, B, columns}
+use Rattle.treefile.specs.Fits.{endOf, kids, children, takes, fits, slotsFault, depthFault, nodeCheck, rootFits, treeCheck, Tiled}
 use Rattle.treefile.specs.Trees.{Tree, node, Trees, none, more, Entry, treeRecords, treesRecords, height, heights, kindOf, takesTree, slotted, wellFormed, allWellFormed}
 use Rattle.treefile.specs.Spelling.{labelAt, recordsFrom, StandsAt, RowAt, Spells, Admitted, SpellsOne, SpellingRule}
 use Rattle.treefile.proofs.Same.{one-tree}
-use Rattle.treefile.proofs.Walking.{places, inside, stands-node, stands-size, stands-kind, from-length, row-first, row-more, kids-more, children-places}
-use Rattle.treefile.proofs.Agree.{within-parts, takes-agree, fits-agree}
-
-never : {Q : Type 0} (e : TreeFault) → _≡_ {A = Verdict} (Err e) (Ok tt) → Q
-never e h = let z : _≡_ {A = ℕ} 0 1 = cc in absurd (omega arith)
-
-then-ok : (v w : Verdict) → andThen v w ≡ Ok tt → (v ≡ Ok tt) × (w ≡ Ok tt)
-then-ok (Ok u) w h = (refl, h)
-then-ok (Err e) w h = never e h
-
-cond-ok : (b : Bool) (v : Verdict) (e : TreeFault) → cond b v (Err e) ≡ Ok tt → (b ≡ true) × (v ≡ Ok tt)
-cond-ok true v e h = (refl, h)
-cond-ok false v e h = never e h
-
-neither : (b x y : Bool) → x ≡ false → y ≡ false → cond b x y ≡ false
-neither true x y e f = e
-neither false x y e f = f
-
--- a List stands in no slot that asks for a single node
-pub single-no-list : (a : ℕ) → single a 1 ≡ false
-single-no-list a =
-    neither (eqb a 1) _ _ refl
-    (neither (eqb a 2) _ _ refl
-    (neither (eqb a 11) _ _ refl
-    (neither (eqb a 13) _ _ refl (neither (eqb a 14) _ _ refl refl))))
-
--- a List is an element of no List
-pub element-no-list : (a : ℕ) → element a 1 ≡ false
-element-no-list a =
-    neither (eqb a 3) _ _ refl
-    (neither (eqb a 4) _ _ refl
-    (neither (eqb a 5) _ _ refl
-    (neither (eqb a 6) _ _ refl
-    (neither (eqb a 7) _ _ refl
-    (neither (eqb a 8) _ _ refl
-    (neither (eqb a 9) _ _ refl (neither (eqb a 12) _ _ refl refl)))))))
-
--- the nodes of a List lie within it
-abbrev pub Elements : List ℕ → Trailer → ℕ → Type 0
-Elements bs t i = (letter : ℕ) × (elementsFit bs t letter (endOf bs t i) (children bs t i) ≡ true)
-
--- each node lies within an end, and if it is a List, its own nodes lie within it
-abbrev pub Held : List ℕ → Trailer → ℕ → List ℕ → Type 0
-Held bs t end [] = Unit {0}
-Held bs t end (p ∷ ps) = (within bs t end p ≡ true) × (kindAt bs t p ≡ 1 → Elements bs t p) × Held bs t end ps
-
-module _ (bs : List ℕ) (t : Trailer) where
-  bare-no-list : (p : ℕ) → kindAt bs t p ≡ 1 → bareArg bs t p ≡ false
-  bare-no-list p k = ap (λ (n : ℕ). eqb n 0 || (eqb n 45 && secondAbsent bs t p)) k
-
-  -- a List that a slot takes holds its elements
-  pub taken-list : (a p : ℕ) → takes bs t a p ≡ true → kindAt bs t p ≡ 1 → Elements bs t p
-  taken-list a p e k = elim (cases-bool (asksList a)) [
-    | inl is ↦
-        let whole : listFits bs t a p ≡ true = sym (cond-true (asksList a) _ _ is) ∙ e in
-        (a, and-parts _ _ (and-parts (eqb (kindAt bs t p) 1) _ whole .1) .1)
-    | inr other ↦
-        let never-taken : takes bs t a p ≡ false =
-        cond-false (asksList a) _ _ other
-        ∙ neither (eqb a V) _ _ (bare-no-list p k) (ap (single a) k ∙ single-no-list a) in
-        absurd (both-ways (takes bs t a p) never-taken e)
-  ]
-
-  slots-held : (letters : List ℕ) (end : ℕ) (ps : List ℕ) → slotsFit bs t letters end ps ≡ true → Held bs t end ps
-  slots-held [] end [] e = tt
-  slots-held [] end (p ∷ ps) e = absurd (both-ways false refl e)
-  slots-held (a ∷ letters) end [] e = tt
-  slots-held (a ∷ letters) end (p ∷ ps) e =
-      let both = and-parts (slotFits bs t a end p) (slotsFit bs t letters end ps) e in
-      let here = and-parts (within bs t end p) (takes bs t a p) (both .0) in
-      (here .0, taken-list a p (here .1), slots-held letters end ps (both .1))
-
-  elements-held : (letter end : ℕ) (ps : List ℕ) → elementsFit bs t letter end ps ≡ true → Held bs t end ps
-  elements-held letter end [] e = tt
-  elements-held letter end (p ∷ ps) e =
-      let both = and-parts (within bs t end p && element letter (kindAt bs t p)) (elementsFit bs t letter end ps) e in
-      let here = and-parts (within bs t end p) (element letter (kindAt bs t p)) (both .0) in (
-        here .0,
-        λ k. absurd (both-ways (element letter (kindAt bs t p)) (ap (element letter) k ∙ element-no-list letter) (here .1)),
-        elements-held letter end ps (both .1),
-      )
-
-  -- the children of a node that fits, and of a List whose elements are held
-  pub children-held :
-      (i : ℕ) → fits bs t i ≡ true → (kindAt bs t i ≡ 1 → Elements bs t i) →
-      Held bs t (endOf bs t i) (children bs t i)
-  children-held i e els = elim (cases-bool (eqb (kindAt bs t i) 1)) [
-    | inl is ↦
-        let some = els (eqb-true (kindAt bs t i) 1 is) in
-        elements-held (some .0) (endOf bs t i) (children bs t i) (some .1)
-    | inr other ↦
-        slots-held (columns (kindAt bs t i)) (endOf bs t i) (children bs t i)
-        (sym (cond-false (eqb (kindAt bs t i) 1) _ _ other) ∙ e)
-  ]
+use Rattle.treefile.proofs.Walking.{places, inside, stands-node, stands-size, stands-kind, from-length, row-first, row-more, children-places}
+use Rattle.treefile.proofs.Down.{children-sorted}
+use Rattle.treefile.proofs.Sorts.{AllSorted, tiled-by}
+use Rattle.treefile.proofs.Steps.{kids-more, lies-within}
+use Rattle.treefile.proofs.Verdicts.{never, then-ok, cond-ok}
+use Rattle.treefile.proofs.Agree.{takes-agree, fits-agree}
 
 -- a tree stands at a place, with the children that its nodes ask for and so many levels at most
 pub record Formed (bs : List ℕ) (t : Trailer) (levels i : ℕ) : Type 0 where
@@ -151,37 +62,37 @@ module _ (bs : List ℕ) (t : Trailer) where
   -- at so many levels, a node that passes, and that is held if it is a List, spells a tree
   abbrev EachFormed : ℕ → Type 0
   EachFormed levels =
-      (i : ℕ) → nodeCheck bs t levels i ≡ Ok tt → 1 ≤ sizeAt bs t i → (kindAt bs t i ≡ 1 → Elements bs t i) → Formed bs t levels i
+      (i : ℕ) → nodeCheck bs t levels i ≡ Ok tt → 1 ≤ sizeAt bs t i → (kindAt bs t i ≡ 1 → Tiled bs t i) → Formed bs t levels i
 
   -- nodes that pass and are held spell a row of trees, if a node that passes spells a tree
   row-formed :
       (levels : ℕ) → EachFormed levels → (n pos end : ℕ) → pos ≤ end → end ≤ pos + n →
-      Held bs t end (kids bs t n pos end) → firstFault (nodeCheck bs t levels) (kids bs t n pos end) ≡ Ok tt →
+      AllSorted bs t end (kids bs t n pos end) → firstFault (nodeCheck bs t levels) (kids bs t n pos end) ≡ Ok tt →
       FormedRow bs t levels pos end
   row-formed levels each zero pos end h k held ok = no-more levels pos end (omega (arith, h, k))
   row-formed levels each (suc n) pos end h k held ok = elim (cases-lt pos end) [
     | inl less ↦
         let e = kids-more bs t n pos end less in
-        let both = subst (Held bs t end) e held in
+        let both = subst (AllSorted bs t end) e held in
         let oks = then-ok (nodeCheck bs t levels pos) (firstFault (nodeCheck bs t levels) (kids bs t n (endOf bs t pos) end))
         (sym (ap (firstFault (nodeCheck bs t levels)) e) ∙ ok) in
-        let sized = within-parts bs t end pos (both .0) in
-        one-more levels pos end (each pos (oks .0) (sized .0) (both .1))
-        (row-formed levels each n (endOf bs t pos) end (sized .1) (omega (arith, k, sized .0)) (both .2) (oks .1))
+        let sized = lies-within bs t end pos (both .0 .inside) in
+        one-more levels pos end (each pos (oks .0) (sized .0) (both .0 .tiled))
+        (row-formed levels each n (endOf bs t pos) end (sized .1) (omega (arith, k, sized .0)) (both .1) (oks .1))
     | inr over ↦ no-more levels pos end (omega (arith, h, over))
   ]
 
   -- a node that passes, and that is held if it is a List, spells a tree
   pub node-formed :
       (levels i : ℕ) → nodeCheck bs t levels i ≡ Ok tt → 1 ≤ sizeAt bs t i →
-      (kindAt bs t i ≡ 1 → Elements bs t i) → Formed bs t levels i
+      (kindAt bs t i ≡ 1 → Tiled bs t i) → Formed bs t levels i
   unfolding nodeCheck
   node-formed zero i ok some els =
-      never (depthFault bs t i) (cond-ok (fits bs t i) (Err (depthFault bs t i)) (slotsFault bs t i) ok .1)
+      never (depthFault bs t i) tt (cond-ok (fits bs t i) (Err (depthFault bs t i)) (slotsFault bs t i) ok .1)
   node-formed (suc levels) i ok some els =
       let p = cond-ok (fits bs t i) (firstFault (nodeCheck bs t levels) (children bs t i)) (slotsFault bs t i) ok in
       let r = row-formed levels (node-formed levels) (sizeAt bs t i) (i + 1) (endOf bs t i) (omega (arith, some)) (omega arith)
-      (children-held bs t i (p .0) els) (p .1) in
+      (children-sorted bs t i (p .0) els) (p .1) in
       let size : sizeAt bs t i ≡ length (treesRecords (r .trees)) + 1 = omega (arith, r .ends) in
       let s : StandsAt bs t i (node (labelAt bs t i) (r .trees)) = stands-node bs t i (labelAt bs t i) (r .trees) refl size (r .row) in
       record {
@@ -251,7 +162,7 @@ module _ (bs : List ℕ) (t : Trailer) where
       let root = and-parts (eqb (sizeAt bs t 0) (t .«record_count»)) (takes bs t (cond (eqb (kindAt bs t 0) 1) B X) 0) (p .0) in
       let all : sizeAt bs t 0 ≡ t .«record_count» = eqb-true (sizeAt bs t 0) (t .«record_count») (root .0) in
       spelled-one
-      (node-formed bs t 200 0 (p .1) (omega (arith, some, all)) (taken-list bs t (cond (eqb (kindAt bs t 0) 1) B X) 0 (root .1)))
+      (node-formed bs t 200 0 (p .1) (omega (arith, some, all)) (tiled-by bs t (cond (eqb (kindAt bs t 0) 1) B X) 0 (root .1)))
       all (root .1)
 
   accepts : (x : Tree) → Spells bs t x → Admitted x → treeCheck bs t ≡ Ok tt

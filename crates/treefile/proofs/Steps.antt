@@ -1,6 +1,6 @@
 -- The steps of a walk over the children of a node.
-use mathlib.Core.Path.{_≡_, refl, sym, ap}
-use mathlib.Core.Bool.{Bool, true, cond, _&&_}
+use mathlib.Core.Path.{_≡_, refl, ap}
+use mathlib.Core.Bool.{true}
 use mathlib.Core.List.{List, [], _∷_}
 use mathlib.Core.Path.{_∙_}
 use Prim.Native.Nat.{ℕ, zero, suc, _+_, _-_, _<_, _≤_}
@@ -27,6 +27,14 @@ module _ (bs : List ℕ) (t : Trailer) where
       let q = and-parts (leb 1 (sizeAt bs t p)) (leb (endOf bs t p) end) e in
       (leb-true _ _ (q .0), leb-true _ _ (q .1))
 
+  -- the nodes from a place to an end: none, or one and the rest
+  pub kids-none : (n pos end : ℕ) → end ≤ pos → kids bs t n pos end ≡ []
+  kids-none zero pos end h = refl
+  kids-none (suc n) pos end h = cond-false (ltb pos end) _ _ (le-ltb pos end h)
+
+  pub kids-more : (n pos end : ℕ) → pos < end → kids bs t (suc n) pos end ≡ pos ∷ kids bs t n (endOf bs t pos) end
+  kids-more n pos end h = cond-true (ltb pos end) _ _ (lt-ltb pos end h)
+
   module _ (i : ℕ) where
     pub walked-none : 1 ≤ sizeAt bs t i → Walked bs t i 0 (i + 1)
     walked-none h = record { far = omega arith; near = omega arith }
@@ -37,17 +45,13 @@ module _ (bs : List ℕ) (t : Trailer) where
         ap (λ (n : ℕ). kids bs t n (i + 1) (endOf bs t i)) e
 
     pub rest-all : (c pos : ℕ) → endOf bs t i ≤ pos → rest bs t i c pos ≡ []
-    rest-all c pos h = none (sizeAt bs t i - c)
-      where
-        none : (n : ℕ) → kids bs t n pos (endOf bs t i) ≡ []
-        none zero = refl
-        none (suc n) = cond-false (ltb pos (endOf bs t i)) _ _ (le-ltb pos (endOf bs t i) h)
+    rest-all c pos h = kids-none (sizeAt bs t i - c) pos (endOf bs t i) h
 
     module _ (c pos : ℕ) (w : Walked bs t i c pos) (h : pos < endOf bs t i) where
       pub rest-more : rest bs t i c pos ≡ pos ∷ rest bs t i (c + 1) (endOf bs t pos)
       rest-more =
           let e : sizeAt bs t i - c ≡ suc (sizeAt bs t i - (c + 1)) = omega (arith, w .far) in
-          ap (λ (n : ℕ). kids bs t n pos (endOf bs t i)) e ∙ cond-true (ltb pos (endOf bs t i)) _ _ (lt-ltb pos (endOf bs t i) h)
+          ap (λ (n : ℕ). kids bs t n pos (endOf bs t i)) e ∙ kids-more (sizeAt bs t i - (c + 1)) pos (endOf bs t i) h
 
       pub walked-more : within bs t (endOf bs t i) pos ≡ true → Walked bs t i (c + 1) (endOf bs t pos)
       walked-more e =

@@ -1,7 +1,7 @@
 -- Each record of a tree is the root of a subtree that stands there.
-use mathlib.Core.Path.{_≡_, refl, sym, ap, subst, _∙_}
+use mathlib.Core.Path.{_≡_, subst}
 use mathlib.Core.Bool.{true}
-use mathlib.Core.List.{List, _++_}
+use mathlib.Core.List.{List}
 use mathlib.Core.Logic.{⊎-elim}
 use Prim.Native.Nat.{ℕ, zero, suc, _+_, _-_, _<_, _≤_}
 use lib.ListN.{length}
@@ -9,10 +9,9 @@ use native.Mathlib.Omega.{arith}
 use Rattle.std.proofs.shelf.Lists.{length-append}
 use Rattle.std.proofs.shelf.Tests.{cases-lt, and-parts}
 use Rattle.treefile.specs.declared.trailer.Trailer.{Trailer}
-use Rattle.treefile.specs.Fits.{endOf}
 use Rattle.treefile.specs.Spelling.{StandsAt, RowAt}
 use Rattle.treefile.specs.Trees.{Tree, node, Trees, none, more, treeRecords, treesRecords, wellFormed, allWellFormed}
-use Rattle.treefile.proofs.Checked.{formed-below, formed-more}
+use Rattle.treefile.proofs.Checked.{formed-below}
 use Rattle.treefile.proofs.Walking.{inside, row-first}
 
 -- a well-formed tree that stands at a place and ends at or before an end

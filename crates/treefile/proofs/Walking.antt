@@ -3,14 +3,13 @@ use mathlib.Core.Path.{_≡_, refl, sym, ap, subst, _∙_}
 use mathlib.Core.List.{List, [], _∷_, _++_}
 use Prim.Native.Nat.{ℕ, zero, suc, _+_, _≤_, _<_}
 use native.Mathlib.Omega.{arith}
-use lib.Dec.{ltb}
 use lib.ListN.{length, getD}
-use Rattle.std.proofs.shelf.Tests.{cond-true, cond-false, lt-ltb, le-ltb}
 use Rattle.std.proofs.shelf.Lists.{length-append}
 use Rattle.treefile.specs.declared.trailer.Trailer.{Trailer}
 use Rattle.treefile.specs.Records.{kindAt, sizeAt}
 use Rattle.treefile.specs.Fits.{endOf, kids, children}
 use Rattle.treefile.specs.Trees.{Label, Tree, node, Trees, none, more, Entry, treeRecords, treesRecords, kindOf}
+use Rattle.treefile.proofs.Steps.{kids-none, kids-more}
 use Rattle.treefile.specs.Spelling.{labelAt, recordsFrom, StandsAt, RowAt}
 
 -- the places of trees that stand one after the other
@@ -147,25 +146,18 @@ module _ (bs : List ℕ) (t : Trailer) where
             ∙ ap (λ (a : List Entry). treeRecords x ++ a) (next .records);
       }
 
-  pub kids-none : (n pos end : ℕ) → end ≤ pos → kids bs t n pos end ≡ []
-  kids-none zero pos end h = refl
-  kids-none (suc n) pos end h = cond-false (ltb pos end) _ _ (le-ltb pos end h)
-
-  pub kids-more : (n pos end : ℕ) → pos < end → kids bs t (suc n) pos end ≡ pos ∷ kids bs t n (endOf bs t pos) end
-  kids-more n pos end h = cond-true (ltb pos end) _ _ (lt-ltb pos end h)
-
   -- the nodes from a place to where a row ends are its trees' places
   pub kids-places :
       (n pos end : ℕ) (xs : Trees) → RowAt bs t pos xs → pos + length (treesRecords xs) ≡ end →
       length (treesRecords xs) ≤ n → kids bs t n pos end ≡ places pos xs
-  kids-places n pos end none r e h = kids-none n pos end (omega (arith, e))
+  kids-places n pos end none r e h = kids-none bs t n pos end (omega (arith, e))
   kids-places zero pos end (more x xs) r e h =
       let f = row-first pos x xs r in
       absurd (omega (arith, f .some, f .ends, h))
   kids-places (suc n) pos end (more x xs) r e h =
       let f = row-first pos x xs r in
       let next = kids-places n (endOf bs t pos) end xs (f .rest) (sym (f .ends) ∙ e) (omega (arith, f .some, f .ends, h)) in
-      kids-more n pos end (omega (arith, f .some, f .ends, e))
+      kids-more bs t n pos end (omega (arith, f .some, f .ends, e))
       ∙ ap (λ (ps : List ℕ). pos ∷ ps) next
       ∙ ap (λ (k : ℕ). pos ∷ places (pos + k) xs) (f .size)
 

@@ -2,9 +2,9 @@
 use mathlib.Core.Bool.{Bool, true, false, cond, _||_, _&&_, not}
 use mathlib.Core.List.{List, [], _∷_}
 use mathlib.Core.Path.{_≡_}
-use Prim.Native.Nat.{ℕ, zero, suc, _+_, _≤_, _<_}
+use Prim.Native.Nat.{ℕ, zero, suc, _+_, _≤_}
 use lib.Dec.{leb, ltb, eqb}
-use Rattle.std.specs.declared.result.Result.the-variants.{Ok, Err}
+use Rattle.std.specs.declared.result.Result.the-variants.{Err}
 use Rattle.treefile.specs.declared.fault.TreeFault.{TreeFault}
 use Rattle.treefile.specs.declared.fault.TreeReason.the-variants.{Slots, Depth}
 use Rattle.treefile.specs.declared.trailer.Trailer.{Trailer}

@@ -1,5 +1,5 @@
 -- What a node of a checked tree shows: the label of its record, and the places of its children.
-use mathlib.Core.Bool.{Bool, cond, _||_}
+use mathlib.Core.Bool.{cond, _||_}
 use mathlib.Core.List.{List, [], _∷_}
 use Prim.Native.Nat.{ℕ, _+_}
 use lib.Dec.{eqb, ltb}
@@ -16,7 +16,7 @@ use Rattle.treefile.specs.declared.trailer.Trailer.{Trailer}
 use Rattle.treefile.specs.Fits.{endOf, children}
 use Rattle.treefile.specs.Kinds.{needsName, mayHaveName}
 use Rattle.treefile.specs.Names.{nameBytes}
-use Rattle.treefile.specs.Records.{kindAt, formAt, nameNumber}
+use Rattle.treefile.specs.Records.{kindAt}
 use Rattle.treefile.specs.Spelling.{labelAt}
 use Rattle.treefile.specs.Trees.{Label}
 

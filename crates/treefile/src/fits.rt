@@ -1,6 +1,6 @@
 // Which nodes have the children that their slots ask for.
 ghost use Prim.Native.Nat.{_+_, _≤_, _<_};
-ghost use Rattle.treefile.specs.Fits.{Stands, bareArg, children, elementsFit, endOf, fits as fitsAt, listFits, rootFits, secondAbsent, slotFits, takes as takesAt, within};
+ghost use Rattle.treefile.specs.Fits.{Stands, children, elementsFit, endOf, fits as fitsAt, rootFits, secondAbsent, slotFits, takes as takesAt, within};
 ghost use Rattle.treefile.specs.Records.{kindAt};
 ghost use Rattle.treefile.specs.Slots.{asksList, element, single};
 ghost use Rattle.treefile.specs.Trailer.{Framed};

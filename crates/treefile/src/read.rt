@@ -1,16 +1,11 @@
 // Reads of a checked tree.
-ghost use Prim.Native.Nat.{_<_, _^_};
+ghost use Prim.Native.Nat.{_<_};
 ghost use Rattle.std.specs.declared.option.Option.the-variants.{None, Some};
 ghost use Rattle.std.specs.Options.{mapped};
 ghost use Rattle.treefile.specs.Kinds.{known};
-ghost use Rattle.treefile.specs.Names.{nameBytes};
-ghost use Rattle.treefile.specs.Records.{formAt, kindAt, nameNumber, rowAt, sizeAt};
 ghost use Rattle.treefile.specs.Shown.{afterPlace, held, maybeName, nameOr, nodeAt, placesAfter, saidBy, saidOf, shown};
-ghost use Rattle.treefile.specs.Trailer.{Framed};
-ghost use lib.Dec.{eqb, ltb};
-ghost use lib.ListN.{length};
+ghost use lib.Dec.{ltb};
 ghost use mathlib.Core.Bool.{cond, true};
-ghost use mathlib.Core.List.{[]};
 ghost use mathlib.Core.Path.{_≡_};
 use super::node::Case;
 use super::node::Node;

@@ -1,6 +1,6 @@
 // The records of a tree file, each in itself.
 ghost use Prim.Native.Nat.{ℕ, _+_, _≤_, _<_, _^_};
-ghost use Rattle.treefile.specs.Names.{nameBytes, nameLength, nameOk, namePlace};
+ghost use Rattle.treefile.specs.Names.{nameBytes, nameOk};
 ghost use Rattle.treefile.specs.Records.{dotsOk, dotted, formOk, kindAt, namingOk, recordOk, recordsCheck, rowAt, sizeAt};
 ghost use Rattle.treefile.specs.Trailer.{Framed};
 ghost use lib.Dec.{ltb};

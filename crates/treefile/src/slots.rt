@@ -1,6 +1,6 @@
 // The slot table: which children a node of a kind has.
 ghost use Prim.Native.Nat.{_≤_};
-ghost use Rattle.treefile.specs.Slots.{TableRule, asksList, columns, element, single};
+ghost use Rattle.treefile.specs.Slots.{TableRule, columns};
 ghost use lib.ListN.{getD, length};
 ghost use mathlib.Core.Path.{_≡_};
 

@@ -1,7 +1,7 @@
 // The check of the tree: each node's children fit its slots, and none stands too deep.
 ghost use Prim.Native.Nat.{_<_};
 ghost use Rattle.std.specs.declared.result.Result.the-variants.{Err};
-ghost use Rattle.treefile.specs.Fits.{Stands, Tiled, depthFault, nodeCheck, slotsFault, treeCheck};
+ghost use Rattle.treefile.specs.Fits.{Stands, Tiled, nodeCheck, slotsFault, treeCheck};
 ghost use Rattle.treefile.specs.Records.{kindAt};
 ghost use Rattle.treefile.specs.Trailer.{Framed};
 ghost use mathlib.Core.Path.{_≡_};

@@ -1,5 +1,3 @@
-use mathlib.Core.Path.{ap, _∙_}
-use Rattle.treefile.specs.Shown.{inRow}
 use Rattle.treefile.proofs.Shows.{kind-known, node-shown}
 use Rattle.treefile.proofs.Sound.{sound-kept}
 use Rattle.treefile.proofs.tree.Tree.node_at.Needs as need
