@@ -1,0 +1,4 @@
+-- The lemmas of this crate.
+pub mod Counts
+pub mod Enters
+pub mod Seeks

@@ -1,0 +1,3 @@
+-- What the contracts say: first the keys, then the list of records.
+pub mod Keys
+pub mod Records
