@@ -2,7 +2,8 @@
 //
 // A line of the standard input is a title, a space, and the bytes of a file in hexadecimal. A line of the output is the
 // title and `passes`, or the title and `R` with the number, the node and the row of the first fault; or `bad-line`.
-// The expected answers were computed by an independent model of the format, written apart from the check.
+// The expected answers were computed by models of the format and not by the check: those titled `random` and `script`
+// by one that others wrote, the rest by one of the check's own authors.
 // None of the files has too many records or names: it would be too large to store.
 mod hex;
 mod replay;
