@@ -2,6 +2,8 @@
 //
 // An outcome is one number: the masks of the symbol after the entering, 1000 and the number of the fault, or `NONE`
 // where there is no such symbol. Every example has small places of its own.
+#![tactic(auto)]
+
 #[cfg(test)]
 mod faults;
 #[cfg(test)]

@@ -6,6 +6,8 @@
 // a record or a place is missing, the call says so and leaves the table as it was.
 //
 // `keyed` has what a record shows, `table` the struct, `methods` what can be done with it.
+#![tactic(auto)]
+
 pub mod keyed;
 pub mod methods;
 pub mod table;

@@ -1,4 +1,6 @@
 // Whole scripts whose scan was computed by the definitions that the contracts of `scan` cite.
+#![tactic(auto)]
+
 ghost use Rattle.scripts.specs.Scripts.{WorkedScripts, scripts};
 ghost use Rattle.std.specs.Prelude.{◌≡◌, length};
 

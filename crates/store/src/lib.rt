@@ -5,6 +5,8 @@
 // one, or says why not, and `outward` has the names that enter more than one. A private name is entered under the name of
 // its class (`mangle`), and each text is held once (`intern`). `cursor` opens tables, and has the guard that puts the open
 // table and the class name in force back. No call asks anything of its caller, and a name that is refused changes nothing.
+#![tactic(auto)]
+
 pub mod block;
 pub mod cursor;
 pub mod intern;

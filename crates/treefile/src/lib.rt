@@ -5,6 +5,8 @@
 // counts, the names, each record in itself, and then the tree, node by node. A `Tree` is a file that passed;
 // its nodes are shown with names that borrow the file and with the places of their children, and reading one
 // does not check the file again.
+#![tactic(auto)]
+
 mod case;
 pub mod check;
 pub mod fault;

@@ -1,4 +1,6 @@
 // Lists the records of a tree file: reads standard input, writes a line for each record, or one line for the fault.
+#![tactic(auto)]
+
 mod text;
 
 use std::io::Read;

@@ -5,6 +5,8 @@
 // The expected answers were computed by models of the format and not by the check: those titled `random` and `script`
 // by one that others wrote, the rest by one of the check's own authors.
 // None of the files has too many records or names: it would be too large to store.
+#![tactic(auto)]
+
 mod hex;
 mod replay;
 

@@ -1,4 +1,6 @@
 // Whole tree files whose check was computed by the definitions that the contracts of `treefile` cite.
+#![tactic(auto)]
+
 ghost use Rattle.worked.specs.Worked.{WorkedFiles, files};
 ghost use Rattle.std.specs.Prelude.{◌≡◌, length};
 
