@@ -58,7 +58,7 @@ fn hex_digit(number: u8) -> char
 
 // Writes a byte as itself, or as a backslash and two digits.
 fn write_byte<W: fmt::Write>(f: &mut fmt::Formatter<W>, byte: u8) -> fmt::Result
-    ensures { WritesOnOk write_str_gives f.old result (escaped_byte byte) f.new }
+    ensures { WritesOnOk W.write_str_gives f.old result (escaped_byte byte) f.new }
 {
     if stands_for_itself(byte) {
         f.write_char(byte as char)

@@ -9,11 +9,11 @@ use Rattle.store.proofs.Frames.{same_truncated}
 use Rattle.store.proofs.intern.append_name.Goals as goal
 use Rattle.store.proofs.intern.append_name.Goals.{else-extend-via-then-extend+then-extend-2+else-extend-3, else-extend-via-then-extend+else-extend-2, else-extend-via-else-extend}
 
-pub returns-then-is-empty : goal.returns-then-is-empty
-returns-then-is-empty c =
+pub returns-then-is_empty : goal.returns-then-is_empty
+returns-then-is_empty c =
     let t = c.args.bytes.now in
     let t' = c.extend.new.self in
-    subst (λ z. Appends t t' z c.extend.result) (sym (under_none c.args.prefix.now c.args.name.now c.if-is-empty.ensures))
+    subst (λ z. Appends t t' z c.extend.result) (sym (under_none c.args.prefix.now c.args.name.now c.if-is_empty.ensures))
     (appends t t' c.args.name.now c.extend.result c.extend.ensures)
 
 pub returns-then-extend-3 : goal.returns-then-extend-3
@@ -24,7 +24,7 @@ returns-then-extend-3 c =
     let t₃ = c.extend-then-extend-2.new.self in
     let prefix = c.args.prefix.now in
     let name = c.args.name.now in
-    subst (λ z. Appends t t₃ z true) (sym (under_some prefix name c.if-is-empty.ensures))
+    subst (λ z. Appends t t₃ z true) (sym (under_some prefix name c.if-is_empty.ensures))
     (appends_more t t₁ t₃ (95 ∷ []) (prefix ++ name) (appends t t₁ (95 ∷ []) true c.if-extend.ensures)
     (appends_more t₁ t₂ t₃ prefix name (appends t₁ t₂ prefix true c.if-extend-2.ensures) (appends t₂ t₃ name true c.if-extend-3.ensures)))
 
@@ -36,7 +36,7 @@ returns c =
     let n = c.count-start.result in
     let prefix = c.args.prefix.now in
     let name = c.args.name.now in
-    let e = under_some prefix name c.if-is-empty.ensures in
+    let e = under_some prefix name c.if-is_empty.ensures in
     let long : length (under prefix name) ≡ 1 + length (prefix ++ name) = ap length e ∙ length-append (95 ∷ []) (prefix ++ name) in
     let both = length-append prefix name in
     let last = c.else-extend.bytes in

@@ -7,5 +7,5 @@ use Rattle.store.proofs.mangle.ends_in_two.Goals as goal
 pub returns : goal.returns
 returns c =
     let xs = c.args.name.now in
-    let tells = ends_is Decides-eqb xs two c.ends-with.result c.ends-with.ensures.value in
+    let tells = ends_is Decides-eqb xs two c.ends_with.result c.ends_with.ensures.value in
     same_from_decides _ _ ((λ e. (_, tells.0 e)), (λ p. tells.1 p.0 p.1)) (ends_decides xs)

@@ -6,8 +6,8 @@ use Rattle.store.proofs.mangle.strip.Goals as goal
 pub loop-left-preserved : goal.loop-left-preserved
 loop-left-preserved c = stripped_more c.loop-left.left.now (omega arith) ∙ c.loop-left.invariant
 
-pub returns-in-default : goal.returns-in-default
-returns-in-default c = sym (stripped_none c.loop-left.left.now (omega (arith, ltb-true))) ∙ c.loop-left.invariant
+pub returns-in_default : goal.returns-in_default
+returns-in_default c = sym (stripped_none c.loop-left.left.now (omega (arith, ltb-true))) ∙ c.loop-left.invariant
 
-pub returns-in-default·2 : goal.returns-in-default·2
-returns-in-default·2 c = sym (stripped_other c.loop-left.left.now (λ e. omega arith)) ∙ c.loop-left.invariant
+pub returns-in_default·2 : goal.returns-in_default·2
+returns-in_default·2 c = sym (stripped_other c.loop-left.left.now (λ e. omega arith)) ∙ c.loop-left.invariant

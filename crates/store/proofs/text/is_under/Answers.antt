@@ -6,17 +6,17 @@ use Rattle.store.proofs.Under.{following, under_nothing, under_tells, under_fail
 use Rattle.store.proofs.text.is_under.Goals as goal
 use Rattle.std.proofs.lemmas.Bool.Decides.{Decides-eqb}
 
-pub returns-then-is-empty : goal.returns-then-is-empty
-returns-then-is-empty c =
+pub returns-then-is_empty : goal.returns-then-is_empty
+returns-then-is_empty c =
     let P : List ℕ → Type 0 = λ l. Decides c.eq.result (c.args.text.now ≡ l) in
-    let none = eqb-true (length c.args.prefix.now) 0 (sym c.if-is-empty.ensures) in
+    let none = eqb-true (length c.args.prefix.now) 0 (sym c.if-is_empty.ensures) in
     subst P (sym (under_nothing c.args.prefix.now c.args.name.now none)) (slice_eq-Decides Decides-eqb _ _ _ c.eq.ensures)
 
 pub returns-in-Some : goal.returns-in-Some
 returns-in-Some c =
     let text = c.args.text.now in
     let prefix = c.args.prefix.now in
-    let some = eqb-false (length prefix) 0 (sym c.if-is-empty.ensures) in
+    let some = eqb-false (length prefix) 0 (sym c.if-is_empty.ensures) in
     under_tells text prefix c.args.name.now (omega arith) (omega arith) c.in-Some.last.now c.eq-in-Some.result
     (strip_prefix_is Decides-eqb (following text) prefix (Some c.in-Some.last) c.in-Some.ensures.cases)
     (slice_eq-Decides Decides-eqb _ _ _ c.eq-in-Some.ensures)
@@ -25,6 +25,6 @@ pub returns-in-None : goal.returns-in-None
 returns-in-None c =
     let text = c.args.text.now in
     let prefix = c.args.prefix.now in
-    let some = eqb-false (length prefix) 0 (sym c.if-is-empty.ensures) in
+    let some = eqb-false (length prefix) 0 (sym c.if-is_empty.ensures) in
     under_fails text prefix c.args.name.now (omega arith) (omega arith)
     (strip_prefix_is Decides-eqb (following text) prefix None c.in-None.ensures.cases)

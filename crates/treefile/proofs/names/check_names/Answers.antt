@@ -6,9 +6,9 @@ use Rattle.treefile.specs.Names.{name_ok}
 use Rattle.treefile.proofs.Firsts.{none_bad, bad_at}
 use Rattle.treefile.proofs.names.check_names.Goals as goal
 
-pub returns-then-not-name-ok : goal.returns-then-not-name-ok
-returns-then-not-name-ok c =
-    sym (ap (refused_at (λ n. fault_of Name n 0)) (bad_at (name_ok c.args.file.now c.args.t) _ c.loop-n.n c.loop-n-test.true c.loop-n.invariant (sym c.if-not-name-ok.ensures)))
+pub returns-then-not-name_ok : goal.returns-then-not-name_ok
+returns-then-not-name_ok c =
+    sym (ap (refused_at (λ n. fault_of Name n 0)) (bad_at (name_ok c.args.file.now c.args.t) _ c.loop-n.n c.loop-n-test.true c.loop-n.invariant (sym c.if-not-name_ok.ensures)))
 
 pub returns : goal.returns
 returns c =

@@ -6,13 +6,13 @@ use Rattle.treefile.specs.Records.{record_ok, row_at}
 use Rattle.treefile.proofs.Firsts.{none_bad, bad_at}
 use Rattle.treefile.proofs.records.check_records.Goals as goal
 
-pub returns-then-not-record-ok : goal.returns-then-not-record-ok
-returns-then-not-record-ok c =
-    rw c.row-at.ensures
-    (sym (ap (refused_at (λ i. fault_of Record i (row_at c.args.file.now c.args.t i))) (bad_at (record_ok c.args.file.now c.args.t) _ c.loop-i.i c.loop-i-test.true c.loop-i.invariant (sym c.if-not-record-ok.ensures))))
+pub returns-then-not-record_ok : goal.returns-then-not-record_ok
+returns-then-not-record_ok c =
+    rw c.row_at.ensures
+    (sym (ap (refused_at (λ i. fault_of Record i (row_at c.args.file.now c.args.t i))) (bad_at (record_ok c.args.file.now c.args.t) _ c.loop-i.i c.loop-i-test.true c.loop-i.invariant (sym c.if-not-record_ok.ensures))))
 
 pub loop-i-preserved : goal.loop-i-preserved
-loop-i-preserved c = below_more _ _ c.loop-i.invariant (sym c.if-not-record-ok.ensures)
+loop-i-preserved c = below_more _ _ c.loop-i.invariant (sym c.if-not-record_ok.ensures)
 
 pub returns : goal.returns
 returns c =

@@ -4,7 +4,7 @@ use Rattle.treefile.proofs.tree_check.deep_fault.Goals as goal
 
 pub returns-then-not-fits : goal.returns-then-not-fits
 returns-then-not-fits c =
-    ap Err c.slots-fault.ensures ∙ sym (node_misfit _ _ _ 0 (sym c.if-not-fits.ensures))
+    ap Err c.slots_fault.ensures ∙ sym (node_misfit _ _ _ 0 (sym c.if-not-fits.ensures))
 
 pub returns : goal.returns
-returns c = rw c.row-at.ensures (sym (node_deep _ _ _ (sym c.if-not-fits.ensures)))
+returns c = rw c.row_at.ensures (sym (node_deep _ _ _ (sym c.if-not-fits.ensures)))

@@ -3,8 +3,8 @@ use Rattle.treefile.specs.Records.{size_at}
 use Rattle.treefile.proofs.Passing.{Listed}
 use Rattle.treefile.proofs.walk.+push_nodes.Given as goal
 
-abbrev pub decreases-push-nodes : goal.decreases-push-nodes
-decreases-push-nodes l = size_at l.tree.now.file.now l.tree.now.trailer l.i
+abbrev pub decreases-push_nodes : goal.decreases-push_nodes
+decreases-push_nodes l = size_at l.tree.now.file.now l.tree.now.trailer l.i
 
 abbrev pub invariant-loop-pos : goal.invariant-loop-pos
 invariant-loop-pos l =

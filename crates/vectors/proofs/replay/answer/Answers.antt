@@ -12,6 +12,6 @@ returns-in-Some c =
 
 pub returns-in-None : goal.returns-in-None
 returns-in-None c =
-    of_bare string_bytes c.args.line.now c.from-str.result
+    of_bare string_bytes c.args.line.now c.from_str.result
     (split_parts 32 c.args.line.now None c.in-None.ensures.cases (lit< tt))
-    c.from-str.ensures.ok
+    c.from_str.ensures.ok

@@ -11,8 +11,8 @@ loop-byte-init g c plain = record { wrote = writes_in_calls_nil g.W.Write.write_
 pub loop-byte-preserved : goal.loop-byte-preserved
 loop-byte-preserved g c plain =
     let before = c.loop-byte.invariant plain in
-    put_as g.W.Write.write_str_gives c.args.f.now c.write-byte.new.f
-    (has_written_append g.W.Write.write_str_gives c.args.f.now _ c.loop-byte.f _ c.write-byte.new.f before (c.in-ok-write-byte.ensures before.plain refl))
+    put_as g.W.Write.write_str_gives c.args.f.now c.write_byte.new.f
+    (has_written_append g.W.Write.write_str_gives c.args.f.now _ c.loop-byte.f _ c.write_byte.new.f before (c.in_ok-write_byte.ensures before.plain refl))
     (cc (escaped_more c.args.self.now.0.now c.loop-byte.byte-index c.loop-byte-test.true))
 
 pub returns-clause-writes : goal.returns-clause-writes

@@ -3,8 +3,8 @@ use Rattle.std.proofs.Common.{◌≡◌, ◌-◌, take, ap, ◌∙◌, arith, ru
 use Rattle.ordered.proofs.Counts.{within_places, take_counted}
 use Rattle.ordered.proofs.table.Ordered.as_slice.Goals as goal
 
-pub slice-bounds-result-end : goal.slice-bounds-result-end
-slice-bounds-result-end g c = let h = within_places c.args.self.now.count c.args.self.now.places.now in search rules
+pub slice_bounds-result-end : goal.slice_bounds-result-end
+slice_bounds-result-end g c = let h = within_places c.args.self.now.count c.args.self.now.places.now in search rules
 
 pub returns : goal.returns
 returns g c =

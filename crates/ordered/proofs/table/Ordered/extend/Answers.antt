@@ -10,12 +10,12 @@ returns g c =
     let xs = t.places.now in
     let n = t.count in
     let m = c.count-start.result in
-    let ys = c.copy-from-slice.new.self in
+    let ys = c.copy_from_slice.new.self in
     let more = c.args.more.now in
     let k = (m + length more) - m in
     let size : k ≡ length more = omega arith in
     let is = c.count-start.ensures in
-    let same = c.copy-from-slice.ensures.after in (
+    let same = c.copy_from_slice.ensures.after in (
       omega arith,
       extend_list n xs ys more m k is same size,
       ap (λ zs. over t zs (m + length more)) (extend_places n xs ys more m k is same size) ∙

@@ -6,10 +6,10 @@ use Rattle.ordered.proofs.table.Ordered.get.Goals as goal
 
 pub returns-then-i-records : goal.returns-then-i-records
 returns-then-i-records g c =
-    let rs = c.as-slice-records.result.now in
+    let rs = c.as_slice-records.result.now in
     sym (slice_get_read rs (length rs) c.args.i c.index-records-i.result refl (omega arith) c.index-records-i.is) ∙
-    ap (λ l. slice_get l c.args.i) c.as-slice-records.ensures
+    ap (λ l. slice_get l c.args.i) c.as_slice-records.ensures
 
 pub returns-else-i-records : goal.returns-else-i-records
 returns-else-i-records g c =
-    sym (slice_get_past c.as-slice-records.result.now c.args.i (omega arith)) ∙ ap (λ l. slice_get l c.args.i) c.as-slice-records.ensures
+    sym (slice_get_past c.as_slice-records.result.now c.args.i (omega arith)) ∙ ap (λ l. slice_get l c.args.i) c.as_slice-records.ensures

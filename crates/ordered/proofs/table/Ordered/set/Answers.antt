@@ -4,8 +4,8 @@ use lib.Seq.{take-set-lt}
 use Rattle.ordered.proofs.Counts.{within_places, within_count}
 use Rattle.ordered.proofs.table.Ordered.set.Goals as goal
 
-pub offset-bounds-self-i : goal.offset-bounds-self-i
-offset-bounds-self-i g c = let h = within_places c.args.self.now.count c.args.self.now.places.now in search rules
+pub offset_bounds-self-i : goal.offset_bounds-self-i
+offset_bounds-self-i g c = let h = within_places c.args.self.now.count c.args.self.now.places.now in search rules
 
 pub bounds-self-i : goal.bounds-self-i
 bounds-self-i g c = let h = within_places c.args.self.now.count c.args.self.now.places.now in search rules

@@ -6,14 +6,14 @@ use Rattle.store.proofs.Frames.{same_truncated}
 use Rattle.store.proofs.Opening.{name_lacks, table_opened, table_lacks}
 use Rattle.store.proofs.memory.Memory.add_table.Goals as goal
 
-pub returns-in-default : goal.returns-in-default
-returns-in-default c =
+pub returns-in_default : goal.returns-in_default
+returns-in_default c =
     name_lacks c.args.self.now c.intern.new.self c.args.around c.args.typ c.args.name.now c.args.spot c.intern.ensures.keeps
-    c.lack.result c.lack.ensures c.in-default.ensures.numbers
+    c.lack.result c.lack.ensures c.in_default.ensures.numbers
 
 pub returns-in-Ok : goal.returns-in-Ok
 returns-in-Ok c =
-    let e = c.nests-is-nested.ensures in
+    let e = c.nests-is_nested.ensures in
     table_opened c.args.self.now c.intern.new.self c.args.around c.args.typ c.args.name.now c.args.spot c.intern.ensures.keeps
     c.in-Some.text c.in-Some.ensures.numbers c.push.new.self _ c.in-Ok.number
     (λ i. record { parent = c.args.around; typ = c.args.typ; name = c.in-Some.text; line_number = c.args.spot.row; is_nested = e i }) c.in-Ok.ensures

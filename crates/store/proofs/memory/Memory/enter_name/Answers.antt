@@ -6,8 +6,8 @@ use Rattle.store.specs.Memory.{held, room_of, Does}
 use Rattle.store.proofs.Places.{stands_within}
 use Rattle.store.proofs.memory.Memory.enter_name.Goals as goal
 
-pub enter-again-requires : goal.enter-again-requires
-enter-again-requires c =
+pub enter_again-requires : goal.enter_again-requires
+enter_again-requires c =
     stands_within (held c.args.self.now) c.args.table (under c.args.prefix.now c.args.name.now) c.in-Some.i (sym c.in-Some.ensures)
 
 pub returns-in-Some : goal.returns-in-Some
@@ -15,13 +15,13 @@ unfolding enter
 returns-in-Some c =
     let m = c.args.self.now in
     let text = under c.args.prefix.now c.args.name.now in
-    let P : Option ℕ → Type 0 = λ o. Does m (enter_at (room_of m) (held m) c.args.table c.args.role text c.args.spot o) c.enter-again.result c.enter-again.new.self in
-    subst P c.in-Some.ensures c.enter-again.ensures
+    let P : Option ℕ → Type 0 = λ o. Does m (enter_at (room_of m) (held m) c.args.table c.args.role text c.args.spot o) c.enter_again.result c.enter_again.new.self in
+    subst P c.in-Some.ensures c.enter_again.ensures
 
 pub returns-in-None : goal.returns-in-None
 unfolding enter
 returns-in-None c =
     let m = c.args.self.now in
     let text = under c.args.prefix.now c.args.name.now in
-    let P : Option ℕ → Type 0 = λ o. Does m (enter_at (room_of m) (held m) c.args.table c.args.role text c.args.spot o) c.enter-first.result c.enter-first.new.self in
-    subst P c.in-None.ensures c.enter-first.ensures
+    let P : Option ℕ → Type 0 = λ o. Does m (enter_at (room_of m) (held m) c.args.table c.args.role text c.args.spot o) c.enter_first.result c.enter_first.new.self in
+    subst P c.in-None.ensures c.enter_first.ensures

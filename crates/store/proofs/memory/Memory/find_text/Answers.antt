@@ -13,4 +13,4 @@ returns c =
     let m = c.args.self.now in
     let text = under c.args.prefix.now c.args.name.now in
     let P : List ℕ → Type 0 = λ bytes. Found (keys (λ t bs. spelled bs t) bytes (listed m.texts)) text c.find.result in
-    found_place (spellings (held m)) text c.find.result (subst P c.as-slice.ensures c.find.ensures)
+    found_place (spellings (held m)) text c.find.result (subst P c.as_slice.ensures c.find.ensures)

@@ -7,16 +7,16 @@ use Rattle.store.specs.Outward.{enter_import}
 use Rattle.store.proofs.Doing.{does_refuse, does_if, does_else}
 use Rattle.store.proofs.memory.Memory.register_import.Goals as goal
 
-pub returns-then-is-misplaced-star : goal.returns-then-is-misplaced-star
+pub returns-then-is_misplaced_star : goal.returns-then-is_misplaced_star
 unfolding enter_import
-returns-then-is-misplaced-star c =
+returns-then-is_misplaced_star c =
     let m = c.args.self.now in
-    does_if (bytes_eq c.args.name.now (codes "*") && not (is_module (kind_of (held m) c.args.block.now.table))) _ _ c.if-is-misplaced-star.ensures
+    does_if (bytes_eq c.args.name.now (codes "*") && not (is_module (kind_of (held m) c.args.block.now.table))) _ _ c.if-is_misplaced_star.ensures
     (does_refuse m _ c.refusal.result c.refusal.ensures)
 
 pub returns : goal.returns
 unfolding enter_import
 returns c =
     let m = c.args.self.now in
-    does_else (bytes_eq c.args.name.now (codes "*") && not (is_module (kind_of (held m) c.args.block.now.table))) _ _ c.if-is-misplaced-star.ensures
-    c.register-name.ensures.does
+    does_else (bytes_eq c.args.name.now (codes "*") && not (is_module (kind_of (held m) c.args.block.now.table))) _ _ c.if-is_misplaced_star.ensures
+    c.register_name.ensures.does

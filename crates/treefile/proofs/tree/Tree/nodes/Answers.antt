@@ -4,16 +4,16 @@ use Rattle.treefile.proofs.Passing.{root_passes}
 use Rattle.treefile.proofs.Sound.{sound_kept}
 use Rattle.treefile.proofs.tree.Tree.nodes.Goals as goal
 
-pub push-nodes-requires : goal.push-nodes-requires
-push-nodes-requires c =
+pub push_nodes-requires : goal.push_nodes-requires
+push_nodes-requires c =
     let self = c.args.self.now in
     record {
       depth = omega arith;
       passes = root_passes self.file.now self.trailer (sound_kept self.file.now self.trailer self.checked self.read);
     }
 
-pub returns-in-err-push-nodes : goal.returns-in-err-push-nodes
-returns-in-err-push-nodes c =
+pub returns-in_err-push_nodes : goal.returns-in_err-push_nodes
+returns-in_err-push_nodes c =
     let self = c.args.self.now in
     record {
       nodes = search rules;
