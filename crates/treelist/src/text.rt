@@ -6,8 +6,7 @@ ghost use Rattle.listing.specs.Lines.{fault_line};
 ghost use Rattle.treefile.specs.Checked.{file_check};
 
 use listing::lines::{FaultLine, NodeLine};
-use std::alloc::Global;
-use std::fmt;
+use std::alloc::{AllocError, Global};
 use treefile::check::check;
 use treefile::stand::Stand;
 use treefile::trailer::Trailer;
@@ -17,7 +16,7 @@ use treefile::tree::Tree;
 pub const LIMIT: usize = 4_194_304;
 
 // Appends the line of a fault.
-fn push_fault(out: &mut String, number: u8, node: u32, row: u32) -> fmt::Result
+fn push_fault(out: &mut String, number: u8, node: u32, row: u32) -> Result<(), AllocError>
     ensures { OnOk result (string_bytes out.new ≡ string_bytes out.old ++ ended (fault_line number node row)) }
 {
     let line = FaultLine { number, node, row };
@@ -42,7 +41,7 @@ fn record_line<'a>(tree: &Tree<'a>, at: Stand) -> NodeLine<'a>
 }
 
 // Appends the line of a record.
-fn push_record(out: &mut String, tree: &Tree<'_>, at: Stand) -> fmt::Result
+fn push_record(out: &mut String, tree: &Tree<'_>, at: Stand) -> Result<(), AllocError>
     requires { at.node < tree.now.trailer.record_count }
     ensures { OnOk result (string_bytes out.new ≡ string_bytes out.old ++ ended (record_line tree.now.file.now tree.now.trailer at)) }
 {
@@ -51,7 +50,7 @@ fn push_record(out: &mut String, tree: &Tree<'_>, at: Stand) -> fmt::Result
 }
 
 // Appends the lines of records.
-fn push_records(out: &mut String, tree: &Tree<'_>, nodes: &[Stand]) -> fmt::Result
+fn push_records(out: &mut String, tree: &Tree<'_>, nodes: &[Stand]) -> Result<(), AllocError>
     requires { All (λ s. s.node < tree.now.trailer.record_count) nodes.now }
     ensures { OnOk result (string_bytes out.new ≡ string_bytes out.old ++ record_lines tree.now.file.now tree.now.trailer nodes.now) }
 {
