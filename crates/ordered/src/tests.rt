@@ -95,5 +95,5 @@ fn bytes(rt: HostRuntime) {
     assert!(rt; area.extend(b"ab"));
     assert!(rt; !area.extend(b"cde"));
     assert!(rt; area.extend(b"cd"));
-    assert!(rt; area.as_slice() == b"abcd");
+    assert!(rt; area.as_slice() == b"abcd".as_slice());
 }

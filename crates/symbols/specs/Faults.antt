@@ -8,7 +8,6 @@ use Rattle.symbols.specs.declared.fault.ScanReason.TheVariants.{Unsupported, Par
 use Rattle.symbols.specs.declared.fault.MemoryReason.{MemoryReason}
 use Rattle.symbols.specs.declared.fault.MemoryReason.TheVariants.{Tables, Symbols, Texts, Counts}
 use Rattle.symbols.specs.declared.fault.ScanFault.{ScanFault}
-use Rattle.symbols.specs.declared.fault.MemoryFault.{MemoryFault}
 use Rattle.symbols.specs.declared.fault.Fault.{Fault}
 use Rattle.symbols.specs.declared.fault.Fault.TheVariants.{Scan, Memory}
 

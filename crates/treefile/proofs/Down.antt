@@ -7,7 +7,7 @@ use Rattle.treefile.specs.Faults.{Verdict}
 use Rattle.treefile.specs.First.{and_then, first_fault}
 use Rattle.treefile.specs.Records.{kind_at, size_at}
 use Rattle.treefile.specs.Slots.{columns}
-use Rattle.treefile.specs.Fits.{end_of, within, children, fits, slots_fault, depth_fault, node_check, Stands, Tiled}
+use Rattle.treefile.specs.Fits.{end_of, children, fits, slots_fault, depth_fault, node_check, Stands, Tiled}
 use Rattle.treefile.proofs.Steps.{rest, Walked, lies_within, walked_none, walked_more, rest_none, rest_more, rest_all, smaller}
 use Rattle.treefile.proofs.Children.{fits_slots}
 use Rattle.treefile.proofs.Sorts.{Sorted, AllSorted, slots_sorted, elements_sorted}
