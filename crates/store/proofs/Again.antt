@@ -1,24 +1,21 @@
 -- A name that its table has, entered once more, over what is held.
-use Rattle.std.proofs.Common.{◌≡◌, ℕ, ◌<◌, ◌≤◌, Bool, true, false, List, [], ◌∷◌, ◌++◌, map, length, get_or, set, Some, None, Ok, Err, Option, Result, sym, refl, ap, ◌∙◌, subst, inl, inr, arith}
+use Rattle.std.proofs.Common.{◌≡◌, ℕ, ◌<◌, Bool, true, false, List, map, length, get_or, set, Some, None, Ok, Err, Option, sym, refl, ap, ◌∙◌, subst, inl, inr, arith}
 use Rattle.std.specs.List.{slice_get}
-use Rattle.std.proofs.lemmas.List.{get_or-map, length-map, map-set, set-get_or}
+use Rattle.std.proofs.lemmas.List.{get_or-map, map-set, set-get_or}
 use Rattle.std.proofs.lemmas.Option.{slice_get-get_or, slice_get_past}
 use Rattle.std.proofs.lemmas.Bool.{cases_lt}
 use Rattle.ordered.specs.declared.table.Ordered.{Ordered}
 use Rattle.ordered.specs.Records.{listed, Replaced}
-use Rattle.symbols.specs.declared.fault.Fault.{Fault}
 use Rattle.symbols.specs.declared.fault.Fault.TheVariants.{Scan}
 use Rattle.symbols.specs.declared.fault.ScanFault.{ScanFault}
 use Rattle.symbols.specs.declared.fault.ScanReason.{ScanReason}
 use Rattle.symbols.specs.declared.fault.Spot.{Spot}
 use Rattle.store.specs.declared.memory.Memory.{Memory}
 use Rattle.store.specs.declared.record.SymbolRecord.{SymbolRecord}
-use Rattle.symbols.specs.declared.symbol.Symbol.{Symbol}
 use Rattle.symbols.specs.declared.usage.SymbolUsage.{SymbolUsage}
 use Rattle.store.specs.Enterings.{again, enter_again, no_symbol, objection}
 use Rattle.symbols.specs.Faults.{judged}
-use Rattle.store.specs.Grown.{Longer}
-use Rattle.store.specs.Memory.{SamePlaces, Keeps, Leaves, Does, held, marks, mark_in, symbol_in}
+use Rattle.store.specs.Memory.{Leaves, Does, held, marks, mark_in, symbol_in}
 use Rattle.store.proofs.Frames.{longer_is, same_refl, same_replaced, keeps_refl}
 use Rattle.store.proofs.Never.{apart}
 

@@ -1,9 +1,9 @@
 -- Bytes appended one part after another.
-use Rattle.std.proofs.Common.{◌≡◌, ℕ, ◌+◌, ◌<◌, ◌≤◌, Bool, true, false, eqb, List, [], ◌∷◌, ◌++◌, length, take, sym, refl, ap, ◌∙◌, subst, append_assoc, arith}
-use Rattle.std.proofs.lemmas.List.{length-append, take_at, take-append-le, take_all, nil_from_length}
+use Rattle.std.proofs.Common.{◌≡◌, ℕ, ◌+◌, ◌≤◌, Bool, true, false, eqb, List, [], ◌∷◌, ◌++◌, length, take, sym, ap, ◌∙◌, append_assoc, arith}
+use Rattle.std.proofs.lemmas.List.{length-append, take_at, take_all}
 use Rattle.std.proofs.lemmas.Bool.{eqb-true, eqb-false}
 use Rattle.ordered.specs.declared.table.Ordered.{Ordered}
-use Rattle.ordered.specs.Records.{listed, room, Extended}
+use Rattle.ordered.specs.Records.{listed, Extended}
 use Rattle.store.specs.Mangling.{under}
 use Rattle.store.specs.Memory.{SamePlaces, Appends}
 use Rattle.store.proofs.Under.{under_nothing, under_something}

@@ -1,5 +1,5 @@
 -- One call after another, and calls that a test decides.
-use Rattle.std.proofs.Common.{◌≡◌, ℕ, Bool, true, false, cond, Ok, Err, Result, sym, refl, ap, ◌∙◌, subst, arith}
+use Rattle.std.proofs.Common.{◌≡◌, Bool, true, false, cond, Ok, Err, Result, sym, refl, ap, ◌∙◌, subst}
 use Rattle.symbols.specs.declared.fault.Fault.{Fault}
 use Rattle.store.specs.declared.memory.Memory.{Memory}
 use Rattle.store.specs.Held.{Held, Room, Outcome, done, refused, and_then}

@@ -1,5 +1,5 @@
 -- A name that is new in its table, over what is held.
-use Rattle.std.proofs.Common.{◌≡◌, ℕ, ◌<◌, ◌≤◌, Bool, true, false, cond, ltb, List, [], ◌∷◌, ◌++◌, map, length, take, Some, None, Ok, Err, Option, Result, sym, refl, ap, ◌∙◌, subst, arith}
+use Rattle.std.proofs.Common.{◌≡◌, ℕ, true, false, ltb, List, [], ◌∷◌, ◌++◌, map, length, take, Some, None, Ok, Err, Option, Result, sym, refl, ap, ◌∙◌, subst, arith}
 use Rattle.std.proofs.lemmas.List.{length-map, map_push}
 use Rattle.std.proofs.lemmas.Bool.{lt-ltb, le-ltb}
 use Rattle.ordered.specs.declared.table.Ordered.{Ordered}
@@ -12,11 +12,10 @@ use Rattle.store.specs.declared.memory.Memory.{Memory}
 use Rattle.store.specs.declared.record.SymbolRecord.{SymbolRecord}
 use Rattle.store.specs.declared.text.Text.{Text}
 use Rattle.symbols.specs.declared.usage.SymbolUsage.{SymbolUsage}
-use Rattle.store.specs.Enterings.{enter_first, enter_new, entered, with_symbols}
+use Rattle.store.specs.Enterings.{enter_first, enter_new, entered}
 use Rattle.symbols.specs.Faults.{judged, memory_fault}
-use Rattle.store.specs.Held.{Held, Room}
-use Rattle.store.specs.Grown.{Longer}
-use Rattle.store.specs.Memory.{SamePlaces, Keeps, Leaves, Does, Numbers, held, marks, mark_in, room_of, symbol_in}
+use Rattle.store.specs.Held.{Held}
+use Rattle.store.specs.Memory.{SamePlaces, Keeps, Leaves, Does, Numbers, held, mark_in, room_of, symbol_in}
 use Rattle.store.specs.Texts.{Interned, interned}
 use Rattle.store.proofs.Again.{passed_by}
 use Rattle.store.proofs.Frames.{longer_trans, longer_is, same_trans, same_room, same_pushed}

@@ -1,5 +1,5 @@
 -- What a call leaves of the places: they are the same, and as many.
-use Rattle.std.proofs.Common.{◌≡◌, ℕ, ◌+◌, ◌≤◌, min, Bool, true, false, List, [], ◌∷◌, ◌++◌, length, take, drop, set, Ok, Err, Result, sym, refl, ap, ◌∙◌, append_assoc, append-nil, arith}
+use Rattle.std.proofs.Common.{◌≡◌, ℕ, ◌+◌, min, Bool, true, false, List, [], ◌++◌, length, drop, set, Ok, Err, Result, sym, refl, ap, ◌∙◌, append_assoc, append-nil, arith}
 use native.Mathlib.Nat.{min-le_right}
 use Rattle.std.proofs.lemmas.List.{length-set, length-append, length-drop}
 use Rattle.ordered.specs.declared.table.Ordered.{Ordered}

@@ -1,7 +1,6 @@
 -- What interning leaves: nothing else, and the texts that were held.
-use Rattle.std.proofs.Common.{◌≡◌, ℕ, Bool, true, false, cond, List, [], ◌∷◌, ◌++◌, length, take, Some, None, Option, sym, refl, ap, ◌∙◌, subst, arith}
+use Rattle.std.proofs.Common.{◌≡◌, ℕ, Bool, true, false, cond, List, length, take, Some, None, Option, sym, refl, ap, ◌∙◌, subst}
 use Rattle.std.proofs.lemmas.List.{take_at}
-use Rattle.store.specs.declared.text.Text.{Text}
 use Rattle.store.specs.Held.{Held, Room}
 use Rattle.store.specs.Grown.{Longer}
 use Rattle.store.specs.Memory.{Numbers}

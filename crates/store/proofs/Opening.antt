@@ -1,5 +1,5 @@
 -- A table that is opened, over what is held.
-use Rattle.std.proofs.Common.{◌≡◌, ℕ, ◌<◌, ◌≤◌, Bool, true, false, cond, ltb, List, [], ◌∷◌, ◌++◌, map, length, take, Some, None, Ok, Err, Option, Result, sym, refl, ap, ◌∙◌, subst, arith}
+use Rattle.std.proofs.Common.{◌≡◌, ℕ, true, false, ltb, List, [], ◌∷◌, ◌++◌, length, take, Some, None, Ok, Err, Option, Result, sym, ap, ◌∙◌, subst, arith}
 use Rattle.std.proofs.lemmas.Bool.{lt-ltb, le-ltb}
 use Rattle.ordered.specs.declared.table.Ordered.{Ordered}
 use Rattle.ordered.specs.Records.{listed, room, Pushed}
@@ -11,7 +11,7 @@ use Rattle.symbols.specs.declared.table.SymbolTable.{SymbolTable}
 use Rattle.symbols.specs.declared.table.SymbolTableType.{SymbolTableType}
 use Rattle.store.specs.declared.text.Text.{Text}
 use Rattle.symbols.specs.Faults.{memory_fault}
-use Rattle.store.specs.Held.{Held, Room}
+use Rattle.store.specs.Held.{Held}
 use Rattle.store.specs.Memory.{SamePlaces, Keeps, Leaves, Gives, Numbers, held, room_of}
 use Rattle.store.specs.Tables.{new_table, open_by, open_table}
 use Rattle.store.specs.Texts.{Interned, interned}

@@ -1,5 +1,5 @@
 -- A named expression's target on its way outwards, over what is held.
-use Rattle.std.proofs.Common.{◌≡◌, ℕ, Bool, true, false, cond, not, ◌&&◌, List, [], ◌∷◌, ◌++◌, Some, None, Ok, Err, Result, sym, refl, ap, ◌∙◌, subst, append_assoc, append-nil}
+use Rattle.std.proofs.Common.{◌≡◌, ℕ, Bool, true, false, not, ◌&&◌, List, [], ◌∷◌, ◌++◌, Some, None, Ok, Err, Result, sym, refl, ap, ◌∙◌, subst, append_assoc, append-nil}
 use Rattle.std.specs.List.{slice_get}
 use Rattle.symbols.specs.declared.fault.Fault.{Fault}
 use Rattle.symbols.specs.declared.fault.ScanReason.TheVariants as reason
@@ -9,9 +9,9 @@ use Rattle.symbols.specs.declared.usage.SymbolUsage.{SymbolUsage}
 use Rattle.symbols.specs.declared.usage.SymbolUsage.TheVariants as role
 use Rattle.store.specs.Enterings.{enter, kind_by, kind_of}
 use Rattle.symbols.specs.Faults.{scan_fault}
-use Rattle.store.specs.Held.{Held, Room, Outcome, done, refused, and_then}
+use Rattle.store.specs.Held.{Held, Room, done, refused, and_then}
 use Rattle.store.specs.Memory.{Keeps, Leaves, Does, held, room_of}
-use Rattle.store.specs.Outward.{Way, around_comprehension, way_from, way_out, is_class, is_empty, enter_each, enter_host, enter_target}
+use Rattle.store.specs.Outward.{around_comprehension, way_out, is_class, is_empty, enter_each, enter_host, enter_target}
 use Rattle.store.specs.Throughout.{held_in}
 use Rattle.store.proofs.Doing.{leaves_done, does_then, does_stop, does_in, does_if, does_else, does_like, does_refuse}
 use Rattle.store.proofs.Frames.{keeps_refl, keeps_trans}

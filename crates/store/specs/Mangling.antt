@@ -1,6 +1,6 @@
 -- Private names (Python Reference, "Identifiers (Names)"): in a class, a name that begins with two underscores and does not
 -- end in two is entered with the class's name before it.
-use Rattle.std.specs.Prelude.{ℕ, Bool, true, false, cond, not, ◌&&◌, ◌||◌, List, [], ◌∷◌, ◌++◌, reverse, ◌==◌}
+use Rattle.std.specs.Prelude.{ℕ, Bool, false, cond, not, ◌&&◌, ◌||◌, List, [], ◌∷◌, ◌++◌, reverse, ◌==◌}
 
 -- the byte of an underscore
 abbrev pub underscore : ℕ

@@ -29,14 +29,20 @@ impl Memory<'_> {
     pub(crate) fn find_text(&self, prefix: &[u8], name: &[u8]) -> Option<usize>
         ensures { result ≡ number_of (held self.now) (under prefix.now name.now) }
     {
-        self.texts.find(self.bytes.as_slice(), 0, 0, prefix, name)
+        let bytes = self.bytes.as_slice();
+        for (i, text) in self.texts.as_slice().iter().enumerate() {
+            if text.spells(bytes, prefix, name) {
+                return Some(i);
+            }
+        }
+        None
     }
 
     // The place of the symbol of a text in a table, if there is one.
     pub(crate) fn find_symbol(&self, table: usize, text: usize) -> Option<usize>
         ensures { result ≡ symbol_of (held self.now) table text }
     {
-        self.symbols.find(b"", table, text, b"", b"")
+        self.symbols.find(b"", table, text, b"")
     }
 
     // The place of the symbol of a name in a table, if there is one.

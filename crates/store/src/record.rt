@@ -38,16 +38,9 @@ pub struct SymbolRecord {
 impl Keyed for SymbolRecord {
     ghost key = { λ x _. x.symbol.table ∷ x.symbol.name ∷ [] };
 
-    ghost asked = { λ first second _ _. first ∷ second ∷ [] };
+    ghost asked = { λ first second _. first ∷ second ∷ [] };
 
-    fn matches(
-        &self,
-        _texts: &[u8],
-        first: usize,
-        second: usize,
-        _prefix: &[u8],
-        _bytes: &[u8],
-    ) -> bool {
+    fn matches(&self, _texts: &[u8], first: usize, second: usize, _bytes: &[u8]) -> bool {
         self.symbol.table == first && self.symbol.name == second
     }
 }

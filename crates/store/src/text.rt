@@ -3,8 +3,6 @@ ghost use Rattle.std.specs.Prelude.{◌≡◌, take, drop, Decides};
 ghost use Rattle.store.specs.Mangling.{under};
 ghost use Rattle.store.specs.Texts.{spelled};
 
-use ordered::Keyed;
-
 // A text is `len` of the text bytes, from `start` on.
 #[derive(Clone, Copy, Drop)]
 pub struct Text {
@@ -12,21 +10,12 @@ pub struct Text {
     pub len: usize,
 }
 
-// A text is sought by its bytes, which a probe gives in two parts: a name, and the name of the class that it is under.
-impl Keyed for Text {
-    ghost key = { λ t bytes. spelled bytes t };
-
-    ghost asked = { λ _ _ prefix name. under prefix name };
-
-    fn matches(
-        &self,
-        texts: &[u8],
-        _first: usize,
-        _second: usize,
-        prefix: &[u8],
-        bytes: &[u8],
-    ) -> bool {
-        is_under(part(texts, self.start, self.len), prefix, bytes)
+impl Text {
+    // Whether the text is a name, which is given in two parts: the name of the class that it is under, and the name itself.
+    pub(crate) fn spells(&self, bytes: &[u8], prefix: &[u8], name: &[u8]) -> bool
+        ensures { Decides result (spelled bytes.now self.now ≡ under prefix.now name.now) }
+    {
+        is_under(part(bytes, self.start, self.len), prefix, name)
     }
 }
 

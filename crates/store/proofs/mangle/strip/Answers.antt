@@ -9,5 +9,5 @@ loop-left-preserved c = stripped_more c.loop-left.left.now (omega arith) ∙ c.l
 pub returns-in_default : goal.returns-in_default
 returns-in_default c = sym (stripped_none c.loop-left.left.now (omega (arith, ltb-true))) ∙ c.loop-left.invariant
 
-pub returns-in_default·2 : goal.returns-in_default·2
-returns-in_default·2 c = sym (stripped_other c.loop-left.left.now (λ e. omega arith)) ∙ c.loop-left.invariant
+pub returns-in_default-2 : goal.returns-in_default-2
+returns-in_default-2 c = sym (stripped_other c.loop-left.left.now (λ e. omega arith)) ∙ c.loop-left.invariant

@@ -1,7 +1,5 @@
 -- A table is opened whole, or not at all.
-use Rattle.std.proofs.Common.{◌≡◌, sym, ap, ◌∙◌}
-use Rattle.store.specs.Memory.{held}
-use Rattle.store.specs.Tables.{new_table}
+use Rattle.std.proofs.Common.{ap}
 use Rattle.store.proofs.Frames.{same_truncated}
 use Rattle.store.proofs.Opening.{name_lacks, table_opened, table_lacks}
 use Rattle.store.proofs.memory.Memory.add_table.Goals as goal

@@ -1,5 +1,5 @@
 -- The symbol at its place is entered once more, or nothing is done.
-use Rattle.std.proofs.Common.{◌≡◌, sym, ap, ◌∙◌, subst}
+use Rattle.std.proofs.Common.{subst}
 use Rattle.std.proofs.lemmas.Result.{err_from_is_err_and}
 use Rattle.ordered.specs.Records.{Replaced}
 use Rattle.symbols.specs.declared.symbol.Symbol.{Symbol}

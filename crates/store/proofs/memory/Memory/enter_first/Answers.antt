@@ -1,5 +1,5 @@
 -- A new name is entered whole, or not at all.
-use Rattle.std.proofs.Common.{◌≡◌, Ok, Option, sym, ap, ◌∙◌, subst}
+use Rattle.std.proofs.Common.{◌≡◌, Ok, ap, subst}
 use Rattle.symbols.specs.declared.table.SymbolTableType.{SymbolTableType}
 use Rattle.store.specs.Enterings.{first_objection, kind_of}
 use Rattle.symbols.specs.Faults.{judged}

@@ -1,6 +1,6 @@
 -- The place of the name decides.
-use Rattle.std.proofs.Common.{◌≡◌, ℕ, length, Some, None, Option, sym, ap, ◌∙◌, subst}
-use Rattle.store.specs.Enterings.{enter, enter_at, stands_at}
+use Rattle.std.proofs.Common.{ℕ, Option, sym, subst}
+use Rattle.store.specs.Enterings.{enter, enter_at}
 use Rattle.store.specs.Mangling.{under}
 use Rattle.store.specs.Memory.{held, room_of, Does}
 use Rattle.store.proofs.Places.{stands_within}

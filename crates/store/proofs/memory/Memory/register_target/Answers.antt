@@ -1,7 +1,6 @@
 -- Each comprehension is passed, and the host decides.
-use Rattle.std.proofs.Common.{◌≡◌, ℕ, List, Err, sym, ap, ◌∙◌, subst}
+use Rattle.std.proofs.Common.{ℕ, List, Err, subst}
 use Rattle.std.proofs.lemmas.Result.{err_from_is_err_and}
-use Rattle.store.specs.Mangling.{under}
 use Rattle.store.specs.Memory.{held, room_of, Does}
 use Rattle.store.specs.Outward.{enter_target}
 use Rattle.store.proofs.Passing.{passed_more, passed_break, passed_class, passed_host}

@@ -1,13 +1,10 @@
 -- One entering, or two.
-use Rattle.std.proofs.Common.{◌≡◌, Bool, true, false, cond, ◌&&◌, ◌||◌, codes, sym, ◌∙◌}
+use Rattle.std.proofs.Common.{codes, sym, ◌∙◌}
 use Rattle.std.proofs.lemmas.Result.{err_from_is_err_and}
-use Rattle.std.specs.Str.{bytes_eq}
 use Rattle.symbols.specs.declared.usage.SymbolUsage.TheVariants as role
-use Rattle.store.specs.Enterings.{enter, kind_of}
-use Rattle.store.specs.Held.{Held, Outcome, done}
-use Rattle.store.specs.Memory.{held, room_of}
-use Rattle.store.specs.Outward.{enter_use, is_comprehension}
-use Rattle.store.specs.Tables.{is_function}
+use Rattle.store.specs.Enterings.{enter}
+use Rattle.store.specs.Memory.{held}
+use Rattle.store.specs.Outward.{enter_use}
 use Rattle.store.proofs.Doing.{does_then, does_stop, does_nothing, does_if, does_else, does_in}
 use Rattle.store.proofs.memory.Memory.register_use.Goals as goal
 
