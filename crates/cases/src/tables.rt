@@ -92,7 +92,7 @@ fn nested(rt: HostRuntime) -> Result<(), Fail> {
         }
         assert_eq!(rt; cursor.table, 3);
         assert_eq!(rt; memory.counts().tables, 4);
-        assert!(rt; memory.bytes.as_slice() == b"topg");
+        assert!(rt; memory.bytes.as_slice() == b"topg".as_slice());
     }
     Ok(())
 }

@@ -1,16 +1,16 @@
 -- The children of a node that stands at a place, by the places that are read of it.
-use Rattle.std.proofs.Common.{◌≡◌, ℕ, ◌+◌, ◌<◌, ◌≤◌, true, List, [], ◌∷◌, length, sym, refl, ap, ◌∙◌, subst, arith}
+use Rattle.std.proofs.Common.{◌≡◌, ℕ, ◌+◌, List, [], ◌∷◌, length, sym, refl, ap, ◌∙◌, subst, arith}
 use Rattle.std.proofs.lemmas.List.{length-append}
 use Rattle.treefile.specs.declared.trailer.Trailer.{Trailer}
 use Rattle.treefile.specs.Fits.{children}
 use Rattle.treefile.specs.Records.{size_at}
 use Rattle.treefile.specs.Slots.{columns}
-use Rattle.treefile.specs.Spelling.{StandsAt, RowAt, label_at}
-use Rattle.treefile.specs.Trees.{Label, Tree, node, Trees, none, more, tree_records, trees_records, slotted, well_formed, all_well_formed}
+use Rattle.treefile.specs.Spelling.{label_at}
+use Rattle.treefile.specs.Trees.{Label, Tree, node, Trees, none, more, tree_records, trees_records, slotted}
 use Rattle.treefile.proofs.Checked.{formed_below, formed_more, formed_slots}
 use Rattle.treefile.proofs.Walking.{places, inside, row_first, children_places}
 use Rattle.scan.specs.Enterings.{part_of, parts_of, made_of}
-use Rattle.scan.specs.Parts.{Part, Parts, end, ◌▸◌}
+use Rattle.scan.specs.Parts.{◌▸◌}
 use Rattle.scan.specs.Places.{Here, Row, ReadsAs, Slotted, spot_at, NoChild, OneChild, TwoChildren, ThreeChildren, FourChildren, Elements}
 
 apart : {X : Type 0} → ◌≡◌ {A = ℕ} 0 1 → X

@@ -1,6 +1,6 @@
 -- What begins in the module enters names in the module and in new tables only.
 use Rattle.std.proofs.Common.{◌≡◌, ℕ, zero, suc, ◌<◌, ◌≤◌, Bool, true, false, cond, eqb, ltb, ◌⊎◌, List, [], ◌∷◌, ◌++◌, length, Some, None, filter, Option, refl, ap, ◌∙◌, subst, inl, inr, arith}
-use Rattle.std.specs.List.{slice_get, AllByRecursion as All}
+use Rattle.std.specs.List.{slice_get, AllByRecursion}
 use Rattle.std.proofs.lemmas.List.{length-append}
 use Rattle.std.proofs.lemmas.Option.{slice_get_past}
 use Rattle.symbols.specs.declared.fault.Spot.{Spot}
@@ -85,7 +85,7 @@ module _ (n : ℕ) where
 
     -- none of these tables is v
     abbrev Misses : Way → Type 0
-    Misses w = All (λ u. v ≡ u → ⊥) w.through × (v ≡ w.host → ⊥)
+    Misses w = AllByRecursion (λ u. v ≡ u → ⊥) w.through × (v ≡ w.host → ⊥)
 
     further_new : (ts : List SymbolTable) (t : ℕ) (next : ℕ → Way) (o : Option ℕ) → around_comprehension ts t ≡ o → Fresh ts t → ((p : ℕ) → Fresh ts p → Misses (next p)) → Misses (further o t next)
     further_new ts t next (Some p) e j goes =

@@ -1,6 +1,6 @@
 -- What each entering keeps to, runs keep to.
 use Rattle.std.proofs.Common.{◌≡◌, ℕ, ◌<◌, ltb, List, [], ◌∷◌, ◌++◌, length, get_or, Some, None, Option, Result, sym, refl, ap, subst}
-use Rattle.std.specs.List.{AllByRecursion as All}
+use Rattle.std.specs.List.{AllByRecursion}
 use Rattle.std.proofs.lemmas.Bool.{cond_both}
 use Rattle.symbols.specs.declared.fault.Fault.{Fault}
 use Rattle.symbols.specs.declared.fault.MemoryReason.TheVariants as lack
@@ -35,7 +35,7 @@ module _ (room : Room) (h : Held) (around : Option ℕ) (k : SymbolTableType) (n
     unfolding open_table
     open_cases = by_name (interned room h name) refl
 
-pub all_of_nothing : (ts : List ℕ) → All (λ t. Unit {0}) ts
+pub all_of_nothing : (ts : List ℕ) → AllByRecursion (λ t. Unit {0}) ts
 all_of_nothing [] = tt
 all_of_nothing (t ∷ ts) = (tt, all_of_nothing ts)
 

@@ -7,7 +7,7 @@ use Rattle.treefile.specs.Slots.{columns}
 use Rattle.treefile.specs.Trees.{Tree, Trees, none, more, tree_records, trees_records, slotted, well_formed, all_well_formed}
 use Rattle.symbols.specs.declared.fault.Spot.{Spot}
 use Rattle.scan.specs.Enterings.{part_of, parts_of, made_of}
-use Rattle.scan.specs.Parts.{Part, Parts, end, ◌▸◌}
+use Rattle.scan.specs.Parts.{Parts, end, ◌▸◌}
 
 -- a tree that a file may hold stands at place i
 pub record Here (bs : List ℕ) (t : Trailer) (i : ℕ) (x : Tree) : Type 0 where

@@ -1,5 +1,5 @@
 -- What a call that scans a node answers and leaves.
-use Rattle.std.specs.Prelude.{◌≡◌, ℕ, Bool, cond, ◌&&◌, ◌||◌, List, [], Some, None, Option, Result, ◌==◌, nat_le, nat_lt}
+use Rattle.std.specs.Prelude.{ℕ, Bool, cond, ◌&&◌, ◌||◌, List, [], Some, None, Option, Result, ◌==◌, nat_le, nat_lt}
 use Rattle.symbols.specs.declared.fault.Fault.{Fault}
 use Rattle.store.specs.declared.cursor.Cursor.{Cursor}
 use Rattle.store.specs.declared.memory.Memory.{Memory}
@@ -7,7 +7,7 @@ use Rattle.treefile.specs.declared.trailer.Trailer.{Trailer}
 use Rattle.treefile.specs.Spelling.{label_at}
 use Rattle.treefile.specs.Trees.{Tree}
 use Rattle.scan.specs.declared.context.Setting.{Setting}
-use Rattle.scan.specs.Enterings.{part_of, enterings}
+use Rattle.scan.specs.Enterings.{part_of}
 use Rattle.scan.specs.Parts.{bytes_of, Part}
 use Rattle.scan.specs.Places.{Here}
 use Rattle.scan.specs.Runs.{CarriesOut}

@@ -1,6 +1,6 @@
 -- What is sound stays sound when a name is entered.
 use Rattle.std.proofs.Common.{◌≡◌, ℕ, ◌<◌, ◌≤◌, List, [], ◌∷◌, map, length, get_or, Some, None, sym, refl, ap, ◌∙◌, subst, inl, inr, arith}
-use Rattle.std.specs.List.{slice_get, AllByRecursion as All}
+use Rattle.std.specs.List.{slice_get, AllByRecursion}
 use Rattle.std.proofs.ByRecursion.{All-get_or, All-push, All-set, All-weaker}
 use Rattle.std.proofs.lemmas.List.{get_or-map, length-map}
 use Rattle.ordered.specs.Keys.{Absent, Distinct}
@@ -26,10 +26,10 @@ use Rattle.store.proofs.TextsStay.{Interning, interning, longer_length}
 abbrev pub PlacedIn : ℕ → ℕ → Symbol → Type 0
 PlacedIn n m s = (s.table < n) × (s.name < m)
 
-pub placed_more : (n n' m m' : ℕ) (ss : List Symbol) → n ≤ n' → m ≤ m' → All (PlacedIn n m) ss → All (PlacedIn n' m') ss
+pub placed_more : (n n' m m' : ℕ) (ss : List Symbol) → n ≤ n' → m ≤ m' → AllByRecursion (PlacedIn n m) ss → AllByRecursion (PlacedIn n' m') ss
 placed_more n n' m m' ss a b = All-weaker (PlacedIn n m) (PlacedIn n' m') (λ s p. (omega (arith, p.0), omega (arith, p.1))) ss
 
-pub named_more : (m m' : ℕ) (ts : List SymbolTable) → m ≤ m' → All (λ x. x.name < m) ts → All (λ x. x.name < m') ts
+pub named_more : (m m' : ℕ) (ts : List SymbolTable) → m ≤ m' → AllByRecursion (λ x. x.name < m) ts → AllByRecursion (λ x. x.name < m') ts
 named_more m m' ts a = All-weaker (λ x. x.name < m) (λ x. x.name < m') (λ x l. omega arith) ts
 
 -- the number of an interned text is that of a text, and there are no fewer texts than before
@@ -82,7 +82,7 @@ sound_first_time room h t role text spot m w b s =
       apart = g.apart s.apart;
       placed = All-push P h.symbols (entered role t m.number spot) (placed_more (length h.tables) (length m.held.tables) (length h.texts) (length m.held.texts) h.symbols (omega arith) more s.placed) first;
       once = subst Distinct (sym (keys_first_time h t role spot m)) (distinct_push (map key_of h.symbols) (t ∷ m.number ∷ []) s.once (key_absent h text m g t s w.new));
-      named = subst (All (λ x. x.name < length m.held.texts)) (sym e) (named_more (length h.texts) (length m.held.texts) h.tables more s.named);
+      named = subst (AllByRecursion (λ x. x.name < length m.held.texts)) (sym e) (named_more (length h.texts) (length m.held.texts) h.tables more s.named);
       outwards = subst (λ ts. (u p : ℕ) → parent_by (slice_get ts u) ≡ Some p → p < u) (sym e) s.outwards;
     }
 

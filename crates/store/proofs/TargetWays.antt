@@ -1,6 +1,6 @@
 -- The way of a named expression goes outwards, so that its tables are there if the first is.
 use Rattle.std.proofs.Common.{◌≡◌, ℕ, zero, suc, ◌<◌, ◌≤◌, ltb, List, length, Some, None, Option, sym, refl, arith}
-use Rattle.std.specs.List.{slice_get, AllByRecursion as All}
+use Rattle.std.specs.List.{slice_get, AllByRecursion}
 use Rattle.std.proofs.ByRecursion.{All-weaker}
 use Rattle.std.proofs.lemmas.Bool.{cond_both, ltb-true}
 use Rattle.symbols.specs.declared.table.SymbolTable.{SymbolTable}
@@ -11,7 +11,7 @@ use Rattle.store.proofs.SoundStays.{sound_stays}
 
 -- each table of a way is at most t
 pub record UpTo (t : ℕ) (way : Way) : Type 0 where
-  pub through : All (λ u. u ≤ t) way.through
+  pub through : AllByRecursion (λ u. u ≤ t) way.through
   pub host : way.host ≤ t
 
 -- no table around, or one below

@@ -1,6 +1,6 @@
 // Which nodes have the children that their slots ask for.
 ghost use Rattle.std.specs.Prelude.{◌≡◌, ◌+◌, ◌<◌, ◌≤◌, ◌&&◌};
-ghost use Rattle.treefile.specs.Fits.{Stands, children, elements_fit, end_of, fits as fitsAt, root_fits, second_absent, slot_fits, takes as takesAt, within};
+ghost use Rattle.treefile.specs.Fits.{Stands, children, elements_fit, end_of, fits as fits_at, root_fits, second_absent, slot_fits, takes as takes_at, within};
 ghost use Rattle.treefile.specs.Records.{kind_at};
 ghost use Rattle.treefile.specs.Slots.{asks_list, element, single};
 ghost use Rattle.treefile.specs.Trailer.{Framed};
@@ -103,7 +103,7 @@ fn second_absent(file: &[u8], t: Trailer, p: usize) -> bool
 // Whether a node may stand in a slot of that letter, as far as the letter speaks.
 fn takes(file: &[u8], t: Trailer, letter: u8, p: usize) -> bool
     requires { Stands file.now t p }
-    ensures { result ≡ takesAt file.now t letter p }
+    ensures { result ≡ takes_at file.now t letter p }
 {
     let kind = kind_at(file, t, p);
     if asks_list(letter) {
@@ -128,7 +128,7 @@ fn slot_fits(file: &[u8], t: Trailer, letter: u8, end: usize, p: usize) -> bool
 // Whether the children of a node fit its slots.
 pub(crate) fn fits(file: &[u8], t: Trailer, i: usize) -> bool
     requires { Stands file.now t i }
-    ensures { result ≡ fitsAt file.now t i }
+    ensures { result ≡ fits_at file.now t i }
 {
     let kind = kind_at(file, t, i);
     if kind == LIST {

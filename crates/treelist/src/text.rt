@@ -1,6 +1,5 @@
 // The text of a listing.
-ghost use Rattle.std.specs.Prelude.{◌≡◌, ◌<◌, ◌++◌, IfOk, Ok, string_bytes, OnOk};
-ghost use Rattle.std.specs.List.{AllByRecursion as All};
+ghost use Rattle.std.specs.Prelude.{◌≡◌, ◌<◌, ◌++◌, IfOk, Ok, string_bytes, OnOk, All};
 ghost use Rattle.treelist.specs.Listing.{answer_lines, ended, line_of, listing_of, record_line, record_lines};
 ghost use Rattle.listing.specs.Lines.{fault_line};
 ghost use Rattle.treefile.specs.Checked.{file_check};

@@ -1,9 +1,8 @@
-use Rattle.std.proofs.ByRecursion.{All-get_or}
 use Rattle.treelist.proofs.Lines.{lines_more, lines_all}
 use Rattle.treelist.proofs.text.push_records.Goals as goal
 
 pub push_record-requires : goal.push_record-requires
-push_record-requires c = All-get_or _ c.args.nodes.now c.loop-at.at-index _ c.loop-at-test.true c.requires
+push_record-requires c = c.requires c.loop-at.at-index _ c.loop-at-test.true
 
 pub loop-at-preserved : goal.loop-at-preserved
 loop-at-preserved c =
