@@ -20,7 +20,7 @@ from script_to_tree import Records, Refused, tree_file
 
 ROOT = TOOLS.parent
 EXAMPLES = ROOT / "examples"
-TREELIST = ROOT / "target" / "bin" / "treelist"
+TREELIST = ROOT / "crates" / "treelist" / "out" / "treelist"
 
 # The words of the kinds, from the table of the document: `| 16 | Global | ...`.
 FORMAT = (ROOT / "docs" / "TREE_FILE.md").read_text("utf-8")
