@@ -1,6 +1,6 @@
 // Number, layer and spot of a fault.
 use crate::outcomes::*;
-use crate::places::{Places, counts};
+use crate::places::Places;
 use std::process::Abort;
 use std::test::Fail;
 use symbols::fault::{Fault, MemoryFault, MemoryReason, ScanFault, ScanReason};
@@ -56,14 +56,14 @@ fn reasons(rt: HostRuntime) {
 #[test]
 fn spots(rt: HostRuntime) -> Result<(), Fail> {
     let mut places = Places::new();
-    let mut memory = places.lent(counts(1, 1, 2, 4), counts(0, 0, 0, 0));
-    open(&mut memory, [None, None, None])?;
-    memory.register_name(&block(0), b"x", SymbolUsage::Used, spot(7))?;
-    let Err(scan) = memory.register_name(&block(0), b"x", SymbolUsage::Global, spot(8)) else {
+    let mut memory = places.lent([1, 1, 2, 4], [0; 4]);
+    open(&mut memory, &[])?;
+    memory.register_name(&inside(0), b"x", SymbolUsage::Used, spot(7))?;
+    let Err(scan) = memory.register_name(&inside(0), b"x", SymbolUsage::Global, spot(8)) else {
         return Err(Fail::new("declared after it was used"));
     };
     is_fault(&rt, scan, 12, Layer::Scan, 8);
-    let Err(full) = memory.register_name(&block(0), b"y", SymbolUsage::Used, spot(9)) else {
+    let Err(full) = memory.register_name(&inside(0), b"y", SymbolUsage::Used, spot(9)) else {
         return Err(Fail::new("a text without a place"));
     };
     is_fault(&rt, full, 24, Layer::Memory, 9);

@@ -1,7 +1,7 @@
 // Examples of what entering a name does, worked by hand from the rules and run against `store`.
 //
-// An outcome is one number: the masks of the symbol after the entering, 1000 and the number of the fault, or `NONE`
-// where there is no such symbol. Every example has small places of its own.
+// An outcome is the masks of the symbol after the entering, the number of the fault, or that there is no such symbol.
+// Every example has small places of its own.
 #![tactic(auto)]
 
 #[cfg(test)]

@@ -1,8 +1,10 @@
 // How a name is entered under a class name.
+use crate::outcomes::Outcome::Masks;
 use crate::outcomes::*;
 use crate::places::Places;
 use std::test::Fail;
-use store::block::Block;
+use store::cursor::Cursor;
+use symbols::table::SymbolTableType::{Comprehension, Function};
 use symbols::usage::SymbolUsage;
 
 // The class name in force, a name, and the text that is entered.
@@ -35,13 +37,16 @@ fn names(rt: HostRuntime) -> Result<(), Fail> {
     for (class, name, text) in ENTERED {
         let mut places = Places::new();
         let mut memory = places.memory();
-        let table = open(&mut memory, [FUNCTION, None, None])?;
-        let within = Block { table, class };
+        let table = open(&mut memory, &[Function])?;
+        let within = Cursor {
+            table,
+            class: Some(class),
+        };
         memory.register_name(&within, name, SymbolUsage::Assigned, spot(1))?;
         assert!(rt; memory.bytes.as_slice().strip_prefix(b"topf") == Some(text));
-        assert_eq!(rt; masks(&memory, table, text), 0x002);
-        memory.register_name(&block(table), text, SymbolUsage::Used, spot(2))?;
-        assert_eq!(rt; masks(&memory, table, text), 0x003);
+        assert_eq!(rt; masks(&memory, table, text), Masks(0x002));
+        memory.register_name(&inside(table), text, SymbolUsage::Used, spot(2))?;
+        assert_eq!(rt; masks(&memory, table, text), Masks(0x003));
         assert_eq!(rt; memory.counts().symbols, 1);
         assert_eq!(rt; memory.counts().texts, 3);
     }
@@ -53,18 +58,18 @@ fn names(rt: HostRuntime) -> Result<(), Fail> {
 fn ways_to_enter(rt: HostRuntime) -> Result<(), Fail> {
     let mut places = Places::new();
     let mut memory = places.memory();
-    let table = open(&mut memory, [FUNCTION, COMPREHENSION, None])?;
-    let within = Block {
+    let table = open(&mut memory, &[Function, Comprehension])?;
+    let within = Cursor {
         table,
-        class: b"__A",
+        class: Some(b"__A"),
     };
     memory.register_import(&within, b"__a", spot(1))?;
     memory.register_use(&within, b"__b", spot(2))?;
     memory.register_target(&within, b"__c", spot(3))?;
-    assert_eq!(rt; masks(&memory, 2, b"_A__a"), 0x012);
-    assert_eq!(rt; masks(&memory, 2, b"_A__b"), 0x001);
-    assert_eq!(rt; masks(&memory, 2, b"_A__c"), 0x042);
-    assert_eq!(rt; masks(&memory, 1, b"_A__c"), 0x002);
+    assert_eq!(rt; masks(&memory, 2, b"_A__a"), Masks(0x012));
+    assert_eq!(rt; masks(&memory, 2, b"_A__b"), Masks(0x001));
+    assert_eq!(rt; masks(&memory, 2, b"_A__c"), Masks(0x042));
+    assert_eq!(rt; masks(&memory, 1, b"_A__c"), Masks(0x002));
     assert_eq!(rt; memory.counts().symbols, 4);
     Ok(())
 }

@@ -1,12 +1,21 @@
 // What an example asks of its memory.
-use store::block::Block;
+use store::cursor::Cursor;
+use store::mangle::Mangled;
 use store::memory::Memory;
 use symbols::fault::{Fault, Spot};
 use symbols::symbol::Symbol;
 use symbols::table::SymbolTableType;
 
-// The outcome where there is no such symbol.
-pub(crate) const NONE: u16 = 2000;
+// What comes of an entering.
+#[derive(Clone, Copy, Drop, PartialEq, Eq, Debug)]
+pub(crate) enum Outcome {
+    // the masks of the symbol after it
+    Masks(u16),
+    // it is refused, and this is the number of the fault
+    Refused(u8),
+    // there is no such symbol
+    Absent,
+}
 
 // A node in a row of its own.
 pub(crate) fn spot(node: u8) -> Spot {
@@ -16,55 +25,46 @@ pub(crate) fn spot(node: u8) -> Spot {
     }
 }
 
-// The block of a table outside of classes.
-pub(crate) fn block(table: usize) -> Block<'static> {
-    Block { table, class: b"" }
+// The cursor in a table outside of classes.
+pub(crate) fn inside(table: usize) -> Cursor<'static> {
+    Cursor { table, class: None }
 }
 
 // The symbol of a name as it is entered.
 pub(crate) fn symbol(memory: &Memory<'_>, table: usize, name: &[u8]) -> Option<Symbol> {
-    let i = memory.find_name(table, b"", name)?;
+    let i = memory.find_name(table, &Mangled::from(name))?;
     let found = memory.symbols.get(i)?;
     Some(found.symbol)
 }
 
-// The masks of a name, or `NONE`.
-pub(crate) fn masks(memory: &Memory<'_>, table: usize, name: &[u8]) -> u16 {
+// What a name has.
+pub(crate) fn masks(memory: &Memory<'_>, table: usize, name: &[u8]) -> Outcome {
     match symbol(memory, table, name) {
-        Some(found) => found.flags.bits,
-        None => NONE,
+        Some(found) => Outcome::Masks(found.flags.bits),
+        None => Outcome::Absent,
     }
 }
 
-// The outcome of an entering in a table: masks or fault.
-pub(crate) fn outcome(
-    memory: &Memory<'_>,
-    res: Result<(), Fault>,
-    table: usize,
-    name: &[u8],
-) -> u16 {
-    match res {
-        Ok(()) => masks(memory, table, name),
-        Err(fault) => 1000 + fault.number() as u16,
+impl Outcome {
+    // The outcome of an entering in a table.
+    pub(crate) fn of(
+        memory: &Memory<'_>,
+        res: Result<(), Fault>,
+        table: usize,
+        name: &[u8],
+    ) -> Outcome {
+        match res {
+            Ok(()) => masks(memory, table, name),
+            Err(fault) => Outcome::Refused(fault.number()),
+        }
     }
 }
 
 // Opens the module, and these tables in it, each in the one before it; and answers the number of the innermost.
-pub(crate) fn open(
-    memory: &mut Memory<'_>,
-    kinds: [Option<SymbolTableType>; 3],
-) -> Result<usize, Fault> {
+pub(crate) fn open(memory: &mut Memory<'_>, kinds: &[SymbolTableType]) -> Result<usize, Fault> {
     let mut last = memory.add_table(None, SymbolTableType::Module, b"top", spot(0))?;
     for kind in kinds {
-        if let Some(typ) = kind {
-            last = memory.add_table(Some(last), typ, b"f", spot(0))?;
-        }
+        last = memory.add_table(Some(last), *kind, b"f", spot(0))?;
     }
     Ok(last)
 }
-
-pub(crate) const FUNCTION: Option<SymbolTableType> = Some(SymbolTableType::Function);
-
-pub(crate) const CLASS: Option<SymbolTableType> = Some(SymbolTableType::Class);
-
-pub(crate) const COMPREHENSION: Option<SymbolTableType> = Some(SymbolTableType::Comprehension);

@@ -2,6 +2,7 @@
 use store::memory::{Counts, Memory};
 use store::record::{Mark, SymbolRecord};
 use store::text::Text;
+use symbols::fault::Spot;
 use symbols::flags::SymbolFlags;
 use symbols::scope::SymbolScope;
 use symbols::symbol::Symbol;
@@ -22,8 +23,7 @@ const FREE_SYMBOL: SymbolRecord = SymbolRecord {
         scope: SymbolScope::Unknown,
         flags: SymbolFlags { bits: 0 },
         global: false,
-        node: 0,
-        row: 0,
+        spot: Spot { node: 0, row: 0 },
     },
     mark: Mark {
         scope: SymbolScope::Unknown,
@@ -41,7 +41,9 @@ pub(crate) struct Places {
     bytes: [u8; 64],
 }
 
-pub(crate) fn counts(tables: usize, symbols: usize, texts: usize, bytes: usize) -> Counts {
+// So many tables, symbols, texts and bytes.
+fn counts(of: [usize; 4]) -> Counts {
+    let [tables, symbols, texts, bytes] = of;
     Counts {
         tables,
         symbols,
@@ -50,13 +52,21 @@ pub(crate) fn counts(tables: usize, symbols: usize, texts: usize, bytes: usize) 
     }
 }
 
+// How many tables, symbols, texts and bytes are in use.
+pub(crate) fn in_use(memory: &Memory<'_>) -> [usize; 4] {
+    let Counts {
+        tables,
+        symbols,
+        texts,
+        bytes,
+    } = memory.counts();
+    [tables, symbols, texts, bytes]
+}
+
 // The first `n` places, or all of them.
 fn front<T>(places: &mut [T], n: usize) -> &mut [T] {
-    if n < places.len() {
-        &mut places[..n]
-    } else {
-        places
-    }
+    let most = places.len();
+    &mut places[..n.min(most)]
 }
 
 impl Places {
@@ -70,7 +80,8 @@ impl Places {
     }
 
     // A memory of so many places, with these counts.
-    pub(crate) fn lent(&mut self, room: Counts, held: Counts) -> Memory<'_> {
+    pub(crate) fn lent(&mut self, room: [usize; 4], held: [usize; 4]) -> Memory<'_> {
+        let room = counts(room);
         let Places {
             tables,
             symbols,
@@ -82,12 +93,12 @@ impl Places {
             front(symbols, room.symbols),
             front(texts, room.texts),
             front(bytes, room.bytes),
-            held,
+            counts(held),
         )
     }
 
     // An empty memory over all places.
     pub(crate) fn memory(&mut self) -> Memory<'_> {
-        self.lent(counts(8, 8, 8, 64), counts(0, 0, 0, 0))
+        self.lent([8, 8, 8, 64], [0; 4])
     }
 }

@@ -1,8 +1,10 @@
 // One name in one table: in a first role, and in a second after it.
+use crate::outcomes::Outcome::{Masks as M, Refused as R};
 use crate::outcomes::*;
 use crate::places::Places;
 use std::process::Abort;
 use std::test::Fail;
+use symbols::table::SymbolTableType::{Class, Comprehension, Function};
 use symbols::usage::SymbolUsage;
 
 // Of each role on a new name: the masks, the word of the scope, and whether the name is declared global.
@@ -25,107 +27,121 @@ const FIRST: [(SymbolUsage, u16, &str, bool); 10] = [
 ];
 
 // A role and a second after it: the line is the first role and the column the second, both in the order of `FIRST`. A
-// cell is the masks after both, or 1000 and the number of the fault. Here are the columns of the two declarations.
-const DECLARED_SECOND: [[u16; 2]; 10] = [
-    [0x000, 1016],
-    [1016, 0x020],
-    [1012, 1012],
-    [1014, 1014],
-    [1014, 1014],
-    [1013, 1013],
-    [1011, 1011],
-    [1011, 1011],
-    [1014, 1014],
-    [0x080, 0x0A0],
+// cell is what comes of both: `M` has masks, and `R` the number of a fault. Here are the columns of the two declarations.
+const DECLARED_SECOND: [[Outcome; 2]; 10] = [
+    [M(0x000), R(16)],
+    [R(16), M(0x020)],
+    [R(12), R(12)],
+    [R(14), R(14)],
+    [R(14), R(14)],
+    [R(13), R(13)],
+    [R(11), R(11)],
+    [R(11), R(11)],
+    [R(14), R(14)],
+    [M(0x080), M(0x0A0)],
 ];
 
-// The columns of the other eight roles, from Used to Iter.
-const SECOND: [[u16; 8]; 10] = [
-    [0x001, 0x002, 0x012, 0x00A, 0x004, 0x00C, 0x042, 0x080],
-    [0x021, 0x022, 0x032, 0x02A, 0x024, 0x02C, 0x062, 0x0A0],
-    [0x001, 0x003, 0x013, 0x00B, 0x005, 0x00D, 0x043, 0x081],
-    [0x003, 0x002, 0x012, 0x00A, 0x006, 0x00E, 0x042, 1017],
-    [0x013, 0x012, 0x012, 0x01A, 0x016, 0x01E, 0x052, 1017],
-    [0x00B, 0x00A, 0x01A, 0x00A, 0x00E, 0x00E, 0x04A, 1017],
-    [0x005, 0x006, 0x016, 0x00E, 0x004, 0x00C, 0x046, 0x084],
-    [0x00D, 0x00E, 0x01E, 0x00E, 0x00C, 0x00C, 0x04E, 0x08C],
-    [0x043, 0x042, 0x052, 0x04A, 0x046, 0x04E, 0x042, 1017],
-    [0x081, 1017, 1017, 1017, 0x084, 0x08C, 1017, 0x080],
+// The columns from Used to AnnotationAssigned.
+const BOUND_SECOND: [[Outcome; 4]; 10] = [
+    [M(0x001), M(0x002), M(0x012), M(0x00A)],
+    [M(0x021), M(0x022), M(0x032), M(0x02A)],
+    [M(0x001), M(0x003), M(0x013), M(0x00B)],
+    [M(0x003), M(0x002), M(0x012), M(0x00A)],
+    [M(0x013), M(0x012), M(0x012), M(0x01A)],
+    [M(0x00B), M(0x00A), M(0x01A), M(0x00A)],
+    [M(0x005), M(0x006), M(0x016), M(0x00E)],
+    [M(0x00D), M(0x00E), M(0x01E), M(0x00E)],
+    [M(0x043), M(0x042), M(0x052), M(0x04A)],
+    [M(0x081), R(17), R(17), R(17)],
+];
+
+// The columns from Parameter to Iter.
+const PARAMETER_SECOND: [[Outcome; 4]; 10] = [
+    [M(0x004), M(0x00C), M(0x042), M(0x080)],
+    [M(0x024), M(0x02C), M(0x062), M(0x0A0)],
+    [M(0x005), M(0x00D), M(0x043), M(0x081)],
+    [M(0x006), M(0x00E), M(0x042), R(17)],
+    [M(0x016), M(0x01E), M(0x052), R(17)],
+    [M(0x00E), M(0x00E), M(0x04A), R(17)],
+    [M(0x004), M(0x00C), M(0x046), M(0x084)],
+    [M(0x00C), M(0x00C), M(0x04E), M(0x08C)],
+    [M(0x046), M(0x04E), M(0x042), R(17)],
+    [M(0x084), M(0x08C), R(17), M(0x080)],
 ];
 
 // Two roles that were accepted, and the outcome of a third: of the reasons against a declaration the first counts.
-const THIRD: [(SymbolUsage, SymbolUsage, SymbolUsage, u16); 12] = [
+const THIRD: [(SymbolUsage, SymbolUsage, SymbolUsage, Outcome); 12] = [
     (
         SymbolUsage::Parameter,
         SymbolUsage::Used,
         SymbolUsage::Global,
-        1011,
+        R(11),
     ),
     (
         SymbolUsage::AnnotationParameter,
         SymbolUsage::Assigned,
         SymbolUsage::Nonlocal,
-        1011,
+        R(11),
     ),
     (
         SymbolUsage::AnnotationAssigned,
         SymbolUsage::Used,
         SymbolUsage::Nonlocal,
-        1012,
+        R(12),
     ),
     (
         SymbolUsage::Global,
         SymbolUsage::Used,
         SymbolUsage::Global,
-        1012,
+        R(12),
     ),
     (
         SymbolUsage::Global,
         SymbolUsage::AnnotationAssigned,
         SymbolUsage::Nonlocal,
-        1013,
+        R(13),
     ),
     (
         SymbolUsage::Global,
         SymbolUsage::Assigned,
         SymbolUsage::Global,
-        1014,
+        R(14),
     ),
     (
         SymbolUsage::Nonlocal,
         SymbolUsage::Imported,
         SymbolUsage::Global,
-        1014,
+        R(14),
     ),
     (
         SymbolUsage::Nonlocal,
         SymbolUsage::Used,
         SymbolUsage::Nonlocal,
-        1012,
+        R(12),
     ),
     (
         SymbolUsage::Nonlocal,
         SymbolUsage::Iter,
         SymbolUsage::Global,
-        1016,
+        R(16),
     ),
     (
         SymbolUsage::Global,
         SymbolUsage::Iter,
         SymbolUsage::Nonlocal,
-        1016,
+        R(16),
     ),
     (
         SymbolUsage::Used,
         SymbolUsage::Iter,
         SymbolUsage::Assigned,
-        1017,
+        R(17),
     ),
     (
         SymbolUsage::Global,
         SymbolUsage::Global,
         SymbolUsage::Global,
-        0x000,
+        M(0x000),
     ),
 ];
 
@@ -134,15 +150,15 @@ fn first(rt: &impl Abort, table: usize, case: (SymbolUsage, u16, &str, bool)) ->
     let (role, bits, word, global) = case;
     let mut places = Places::new();
     let mut memory = places.memory();
-    open(&mut memory, [FUNCTION, CLASS, COMPREHENSION])?;
-    memory.register_name(&block(table), b"x", role, spot(1))?;
+    open(&mut memory, &[Function, Class, Comprehension])?;
+    memory.register_name(&inside(table), b"x", role, spot(1))?;
     let found = symbol(&memory, table, b"x").ok_or("no symbol")?;
     assert_eq!(rt; found.flags.bits, bits);
     assert_eq!(rt; found.scope.word(), word);
     assert_eq!(rt; found.global, global);
     assert_eq!(rt; found.table, table);
-    assert_eq!(rt; found.node, 1);
-    assert_eq!(rt; found.row, 101);
+    assert_eq!(rt; found.spot.node, 1);
+    assert_eq!(rt; found.spot.row, 101);
     assert_eq!(rt; memory.counts().symbols, 1);
     Ok(())
 }
@@ -150,9 +166,9 @@ fn first(rt: &impl Abort, table: usize, case: (SymbolUsage, u16, &str, bool)) ->
 #[test]
 fn first_roles(rt: HostRuntime) -> Result<(), Fail> {
     for case in FIRST {
-        first(&rt, 1, case)?;
-        first(&rt, 2, case)?;
-        first(&rt, 3, case)?;
+        for table in 1..=3 {
+            first(&rt, table, case)?;
+        }
     }
     Ok(())
 }
@@ -163,25 +179,22 @@ fn second(
     rt: &impl Abort,
     earlier: SymbolUsage,
     later: SymbolUsage,
-    expected: u16,
+    expected: Outcome,
 ) -> Result<(), Fail> {
     let mut places = Places::new();
     let mut memory = places.memory();
-    let table = open(&mut memory, [FUNCTION, None, None])?;
-    memory.register_name(&block(table), b"x", earlier, spot(1))?;
+    let table = open(&mut memory, &[Function])?;
+    memory.register_name(&inside(table), b"x", earlier, spot(1))?;
     let before = symbol(&memory, table, b"x").ok_or("no symbol")?;
-    let result = memory.register_name(&block(table), b"x", later, spot(2));
-    assert_eq!(rt; outcome(&memory, result, table, b"x"), expected);
+    let result = memory.register_name(&inside(table), b"x", later, spot(2));
+    assert_eq!(rt; Outcome::of(&memory, result, table, b"x"), expected);
     assert_eq!(rt; memory.counts().symbols, 1);
     let after = symbol(&memory, table, b"x").ok_or("no symbol")?;
     match result {
         Ok(()) => {
-            assert_eq!(rt; after.node, 1);
-            assert_eq!(rt; after.row, 101);
-            assert_eq!(rt;
-                after.global,
-                before.global || matches!(later, SymbolUsage::Global)
-            );
+            assert_eq!(rt; after.spot.node, 1);
+            assert_eq!(rt; after.spot.row, 101);
+            assert_eq!(rt; after.global, before.global || later == SymbolUsage::Global);
             Ok(())
         }
         Err(fault) => {
@@ -192,25 +205,17 @@ fn second(
     }
 }
 
-fn seconds(
-    rt: &impl Abort,
-    earlier: SymbolUsage,
-    declared: [u16; 2],
-    other: [u16; 8],
-) -> Result<(), Fail> {
-    for i in 0..2 {
-        second(rt, earlier, FIRST[i].0, declared[i])?;
-    }
-    for i in 0..8 {
-        second(rt, earlier, FIRST[i + 2].0, other[i])?;
-    }
-    Ok(())
-}
-
 #[test]
 fn second_roles(rt: HostRuntime) -> Result<(), Fail> {
-    for i in 0..10 {
-        seconds(&rt, FIRST[i].0, DECLARED_SECOND[i], SECOND[i])?;
+    let lines = DECLARED_SECOND
+        .into_iter()
+        .zip(BOUND_SECOND)
+        .zip(PARAMETER_SECOND);
+    for ((earlier, ..), ((declared, bound), parameter)) in FIRST.into_iter().zip(lines) {
+        let columns = declared.into_iter().chain(bound).chain(parameter);
+        for ((later, ..), expected) in FIRST.into_iter().zip(columns) {
+            second(&rt, earlier, later, expected)?;
+        }
     }
     Ok(())
 }
@@ -220,11 +225,11 @@ fn third_roles(rt: HostRuntime) -> Result<(), Fail> {
     for (one, two, three, expected) in THIRD {
         let mut places = Places::new();
         let mut memory = places.memory();
-        let table = open(&mut memory, [FUNCTION, None, None])?;
-        memory.register_name(&block(table), b"x", one, spot(1))?;
-        memory.register_name(&block(table), b"x", two, spot(2))?;
-        let result = memory.register_name(&block(table), b"x", three, spot(3));
-        assert_eq!(rt; outcome(&memory, result, table, b"x"), expected);
+        let table = open(&mut memory, &[Function])?;
+        memory.register_name(&inside(table), b"x", one, spot(1))?;
+        memory.register_name(&inside(table), b"x", two, spot(2))?;
+        let result = memory.register_name(&inside(table), b"x", three, spot(3));
+        assert_eq!(rt; Outcome::of(&memory, result, table, b"x"), expected);
     }
     Ok(())
 }
@@ -232,22 +237,22 @@ fn third_roles(rt: HostRuntime) -> Result<(), Fail> {
 // In the module a new name is not nonlocal; one that is there already is declared as anywhere.
 #[test]
 fn nonlocal_in_the_module(rt: HostRuntime) -> Result<(), Fail> {
-    let cases: [(SymbolUsage, u16); 5] = [
-        (SymbolUsage::Used, 1012),
-        (SymbolUsage::Assigned, 1014),
-        (SymbolUsage::Parameter, 1011),
-        (SymbolUsage::Global, 1016),
-        (SymbolUsage::Iter, 0x0A0),
+    let cases: [(SymbolUsage, Outcome); 5] = [
+        (SymbolUsage::Used, R(12)),
+        (SymbolUsage::Assigned, R(14)),
+        (SymbolUsage::Parameter, R(11)),
+        (SymbolUsage::Global, R(16)),
+        (SymbolUsage::Iter, M(0x0A0)),
     ];
     for (role, expected) in cases {
         let mut places = Places::new();
         let mut memory = places.memory();
-        open(&mut memory, [None, None, None])?;
-        let new = memory.register_name(&block(0), b"x", SymbolUsage::Nonlocal, spot(1));
-        assert_eq!(rt; outcome(&memory, new, 0, b"x"), 1015);
-        memory.register_name(&block(0), b"x", role, spot(2))?;
-        let result = memory.register_name(&block(0), b"x", SymbolUsage::Nonlocal, spot(3));
-        assert_eq!(rt; outcome(&memory, result, 0, b"x"), expected);
+        open(&mut memory, &[])?;
+        let new = memory.register_name(&inside(0), b"x", SymbolUsage::Nonlocal, spot(1));
+        assert_eq!(rt; Outcome::of(&memory, new, 0, b"x"), R(15));
+        memory.register_name(&inside(0), b"x", role, spot(2))?;
+        let result = memory.register_name(&inside(0), b"x", SymbolUsage::Nonlocal, spot(3));
+        assert_eq!(rt; Outcome::of(&memory, result, 0, b"x"), expected);
     }
     Ok(())
 }

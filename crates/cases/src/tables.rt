@@ -1,71 +1,39 @@
 // Tables in tables, and the guard that goes back.
+use crate::outcomes::Outcome::{Masks, Refused};
 use crate::outcomes::*;
-use crate::places::{Places, counts};
+use crate::places::Places;
 use std::process::Abort;
 use std::test::Fail;
 use store::cursor::{Cursor, Within};
 use store::memory::Memory;
 use symbols::fault::Fault;
 use symbols::table::SymbolTableType;
+use symbols::table::SymbolTableType::{Class, Comprehension, Function};
 use symbols::usage::SymbolUsage;
 
 // Three tables, one in the other, the first in the module; and of each whether it is nested.
-const NESTED: [([SymbolTableType; 3], [bool; 3]); 6] = [
-    (
-        [
-            SymbolTableType::Function,
-            SymbolTableType::Class,
-            SymbolTableType::Function,
-        ],
-        [false, true, true],
-    ),
-    (
-        [
-            SymbolTableType::Comprehension,
-            SymbolTableType::Function,
-            SymbolTableType::Class,
-        ],
-        [false, false, true],
-    ),
-    (
-        [
-            SymbolTableType::Class,
-            SymbolTableType::Function,
-            SymbolTableType::Comprehension,
-        ],
-        [false, false, true],
-    ),
-    (
-        [
-            SymbolTableType::Class,
-            SymbolTableType::Class,
-            SymbolTableType::Function,
-        ],
-        [false, false, false],
-    ),
-    (
-        [
-            SymbolTableType::Function,
-            SymbolTableType::Comprehension,
-            SymbolTableType::Comprehension,
-        ],
-        [false, true, true],
-    ),
-    (
-        [
-            SymbolTableType::Comprehension,
-            SymbolTableType::Comprehension,
-            SymbolTableType::Class,
-        ],
-        [false, false, false],
-    ),
+const NESTED: [[(SymbolTableType, bool); 3]; 6] = [
+    [(Function, false), (Class, true), (Function, true)],
+    [(Comprehension, false), (Function, false), (Class, true)],
+    [(Class, false), (Function, false), (Comprehension, true)],
+    [(Class, false), (Class, false), (Function, false)],
+    [
+        (Function, false),
+        (Comprehension, true),
+        (Comprehension, true),
+    ],
+    [
+        (Comprehension, false),
+        (Comprehension, false),
+        (Class, false),
+    ],
 ];
 
 // Opens a table in the open one, and looks at its record.
 fn opens(
     rt: &impl Abort,
     memory: &mut Memory<'_>,
-    cursor: &mut Cursor,
+    cursor: &mut Cursor<'_>,
     typ: SymbolTableType,
     nested: bool,
 ) -> Result<(), Fail> {
@@ -82,13 +50,13 @@ fn opens(
 
 #[test]
 fn nested(rt: HostRuntime) -> Result<(), Fail> {
-    for (kinds, nested) in NESTED {
+    for tables in NESTED {
         let mut places = Places::new();
         let mut memory = places.memory();
-        let table = open(&mut memory, [None, None, None])?;
+        let table = open(&mut memory, &[])?;
         let mut cursor = Cursor { table, class: None };
-        for i in 0..3 {
-            opens(&rt, &mut memory, &mut cursor, kinds[i], nested[i])?;
+        for (typ, nested) in tables {
+            opens(&rt, &mut memory, &mut cursor, typ, nested)?;
         }
         assert_eq!(rt; cursor.table, 3);
         assert_eq!(rt; memory.counts().tables, 4);
@@ -101,7 +69,7 @@ fn nested(rt: HostRuntime) -> Result<(), Fail> {
 fn module(rt: HostRuntime) -> Result<(), Fail> {
     let mut places = Places::new();
     let mut memory = places.memory();
-    assert_eq!(rt; open(&mut memory, [None, None, None])?, 0);
+    assert_eq!(rt; open(&mut memory, &[])?, 0);
     let found = memory.tables.get(0).ok_or("no table")?;
     assert_eq!(rt; found.parent, None);
     assert_eq!(rt; found.typ, SymbolTableType::Module);
@@ -111,7 +79,7 @@ fn module(rt: HostRuntime) -> Result<(), Fail> {
 }
 
 // A class with a name in two roles, of which the second may be refused.
-fn class(memory: &mut Memory<'_>, cursor: &mut Cursor, role: SymbolUsage) -> Result<(), Fault> {
+fn class(memory: &mut Memory<'_>, cursor: &mut Cursor<'_>, role: SymbolUsage) -> Result<(), Fault> {
     let table = cursor.table;
     let class = cursor.class;
     let within = Within {
@@ -122,32 +90,32 @@ fn class(memory: &mut Memory<'_>, cursor: &mut Cursor, role: SymbolUsage) -> Res
     within
         .cursor
         .enter_scope(memory, SymbolTableType::Class, b"C", spot(1))?;
-    within.cursor.class = Some(9);
+    within.cursor.class = Some(b"C");
     let inner = within.cursor.table;
-    memory.register_name(&block(inner), b"x", SymbolUsage::Assigned, spot(2))?;
-    memory.register_name(&block(inner), b"x", role, spot(3))
+    memory.register_name(&inside(inner), b"x", SymbolUsage::Assigned, spot(2))?;
+    memory.register_name(&inside(inner), b"x", role, spot(3))
 }
 
 // Accepted, refused after the table is open, and refused for want of a table: the cursor is back each time.
 #[test]
 fn back(rt: HostRuntime) -> Result<(), Fail> {
-    let cases: [(usize, SymbolUsage, u16, usize); 3] = [
-        (3, SymbolUsage::Used, 0x003, 3),
-        (3, SymbolUsage::Global, 1014, 3),
-        (2, SymbolUsage::Used, 1022, 2),
+    let cases: [(usize, SymbolUsage, Outcome, usize); 3] = [
+        (3, SymbolUsage::Used, Masks(0x003), 3),
+        (3, SymbolUsage::Global, Refused(14), 3),
+        (2, SymbolUsage::Used, Refused(22), 2),
     ];
     for (room, role, expected, tables) in cases {
         let mut places = Places::new();
-        let mut memory = places.lent(counts(room, 8, 8, 64), counts(0, 0, 0, 0));
-        let table = open(&mut memory, [FUNCTION, None, None])?;
+        let mut memory = places.lent([room, 8, 8, 64], [0; 4]);
+        let table = open(&mut memory, &[Function])?;
         let mut cursor = Cursor {
             table,
-            class: Some(4),
+            class: Some(b"K"),
         };
         let result = class(&mut memory, &mut cursor, role);
-        assert_eq!(rt; outcome(&memory, result, 2, b"x"), expected);
+        assert_eq!(rt; Outcome::of(&memory, result, 2, b"x"), expected);
         assert_eq!(rt; cursor.table, 1);
-        assert_eq!(rt; cursor.class, Some(4));
+        assert_eq!(rt; cursor.class, Some(b"K".as_slice()));
         assert_eq!(rt; memory.counts().tables, tables);
     }
     Ok(())
@@ -158,13 +126,13 @@ fn back(rt: HostRuntime) -> Result<(), Fail> {
 fn beside(rt: HostRuntime) -> Result<(), Fail> {
     let mut places = Places::new();
     let mut memory = places.memory();
-    let table = open(&mut memory, [None, None, None])?;
+    let table = open(&mut memory, &[])?;
     let mut cursor = Cursor { table, class: None };
     class(&mut memory, &mut cursor, SymbolUsage::Used)?;
     class(&mut memory, &mut cursor, SymbolUsage::Used)?;
     let found = memory.tables.get(2).ok_or("no table")?;
     assert_eq!(rt; found.parent, Some(0));
-    assert_eq!(rt; masks(&memory, 1, b"x"), 0x003);
-    assert_eq!(rt; masks(&memory, 2, b"x"), 0x003);
+    assert_eq!(rt; masks(&memory, 1, b"x"), Masks(0x003));
+    assert_eq!(rt; masks(&memory, 2, b"x"), Masks(0x003));
     Ok(())
 }

@@ -1,4 +1,6 @@
 // Words of scopes and kinds, and what a scope and masks say of a name.
+use std::test::Fail;
+use symbols::fault::Spot;
 use symbols::flags::SymbolFlags;
 use symbols::scope::SymbolScope;
 use symbols::symbol::Symbol;
@@ -11,14 +13,13 @@ fn with(scope: SymbolScope, bits: u16) -> Symbol {
         scope,
         flags: SymbolFlags { bits },
         global: false,
-        node: 0,
-        row: 0,
+        spot: Spot { node: 0, row: 0 },
     }
 }
 
-// A scope, its word, and whether a name that has it is global, and local.
+// A scope, its word as it is and printed, and whether a name that has it is global, and local.
 #[test]
-fn scopes(rt: HostRuntime) {
+fn scopes(rt: HostRuntime) -> Result<(), Fail> {
     let cases: [(SymbolScope, &str, bool, bool); 6] = [
         (SymbolScope::Unknown, "Unknown", false, false),
         (SymbolScope::Local, "Local", false, true),
@@ -31,7 +32,9 @@ fn scopes(rt: HostRuntime) {
         assert_eq!(rt; scope.word(), word);
         assert_eq!(rt; with(scope, 0).is_global(), global);
         assert_eq!(rt; with(scope, 0).is_local(), local);
+        assert_eq!(rt; scope.to_string(rt.alloc())?.as_str(), word);
     }
+    Ok(())
 }
 
 // The masks by name, as a listing prints them.
@@ -78,7 +81,7 @@ fn bound(rt: HostRuntime) {
 }
 
 #[test]
-fn kinds(rt: HostRuntime) {
+fn kinds(rt: HostRuntime) -> Result<(), Fail> {
     let cases: [(SymbolTableType, &str); 4] = [
         (SymbolTableType::Module, "Module"),
         (SymbolTableType::Class, "Class"),
@@ -87,5 +90,7 @@ fn kinds(rt: HostRuntime) {
     ];
     for (kind, word) in cases {
         assert_eq!(rt; kind.word(), word);
+        assert_eq!(rt; kind.to_string(rt.alloc())?.as_str(), word);
     }
+    Ok(())
 }

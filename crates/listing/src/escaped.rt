@@ -1,7 +1,6 @@
 // A name as a line has it: one word of visible ASCII, whatever bytes the name holds.
-ghost use Rattle.std.specs.Prelude.{◌≡◌, ◌<◌, Some};
+ghost use Rattle.std.specs.Prelude.{◌≡◌, Some};
 ghost use Rattle.std.specs.Option.{option_map};
-ghost use Rattle.std.specs.Char.{digit_char};
 ghost use Rattle.std.specs.Fmt.{WritesOnOk};
 ghost use Rattle.listing.specs.Escaped.{stands_for_itself, escaped_byte, escaped, shown_name};
 
@@ -14,6 +13,7 @@ pub struct Escaped<'a>(pub &'a [u8]);
 impl fmt::Display for Escaped<'_> {
     ghost output = { λ x. Some (escaped x.0.now) };
 
+    #[tactic(auto, using(crate::proofs::Bytes::written_more))]
     fn fmt<W: fmt::Write>(&self, f: &mut fmt::Formatter<W>) -> fmt::Result {
         for byte in self.0 {
             write_byte(f, *byte)?;
@@ -44,27 +44,14 @@ fn stands_for_itself(byte: u8) -> bool
     matches!(byte, 0x21..=0x7e) && byte != b'\\'
 }
 
-// The small hexadecimal digit of a number below 16.
-fn hex_digit(number: u8) -> char
-    requires { number < 16 }
-    ensures { result ≡ digit_char number }
-{
-    if number < 10 {
-        (b'0' + number) as char
-    } else {
-        (b'a' - 10 + number) as char
-    }
-}
-
 // Writes a byte as itself, or as a backslash and two digits.
+#[tactic(auto, using(std::proofs::lemmas::Fmt::hex_byte))]
 fn write_byte<W: fmt::Write>(f: &mut fmt::Formatter<W>, byte: u8) -> fmt::Result
     ensures { WritesOnOk W.write_str_gives f.old result (escaped_byte byte) f.new }
 {
     if stands_for_itself(byte) {
         f.write_char(byte as char)
     } else {
-        let high = hex_digit(byte / 16);
-        let low = hex_digit(byte % 16);
-        write!(f, "\\{high}{low}")
+        write!(f, "\\{byte:02x}")
     }
 }

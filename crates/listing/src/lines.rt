@@ -1,10 +1,11 @@
 // The lines of the program that lists a tree, without the line feed.
-ghost use Rattle.std.specs.Prelude.{Some};
+ghost use Rattle.std.specs.Prelude.{◌≡◌, Some};
 ghost use Rattle.std.specs.Option.{option_map};
 ghost use Rattle.listing.specs.Lines.{node_line, fault_line};
 
 use crate::escaped::Name;
 use std::fmt;
+use treefile::fault::{Reason, Refusal};
 
 // A node: its number, its depth, its kind's word, its name and its row.
 #[derive(Clone, Copy)]
@@ -38,6 +39,18 @@ pub struct FaultLine {
     pub number: u8,
     pub node: u32,
     pub row: u32,
+}
+
+impl<R: Reason + Copy> From<Refusal<R>> for FaultLine {
+    ghost from_gives = { λ fault line. line ≡ record { number = R.number_of fault.reason; node = fault.spot.node; row = fault.spot.row } };
+
+    fn from(fault: Refusal<R>) -> FaultLine {
+        FaultLine {
+            number: fault.number(),
+            node: fault.spot.node,
+            row: fault.spot.row,
+        }
+    }
 }
 
 impl fmt::Display for FaultLine {

@@ -4,7 +4,7 @@ use Rattle.std.proofs.lemmas.List.{length_push, get_or_append_left, get_or_push,
 use Rattle.std.proofs.lemmas.Bool.{cases_lt}
 use Rattle.ordered.specs.declared.table.Ordered.{Ordered}
 use Rattle.ordered.specs.Keys.{keys, Absent, Distinct}
-use Rattle.ordered.specs.Records.{listed, Pushed, Entered}
+use Rattle.ordered.specs.Records.{listed, Pushed}
 
 -- an absent key can be added to distinct keys
 pub distinct_push : (ks : List (List ℕ)) (k : List ℕ) → Distinct ks → Absent ks k → Distinct (ks ++ k ∷ [])
@@ -28,10 +28,6 @@ pub keys_push : {R : Type 0} (key : R → List ℕ → List ℕ) (texts : List �
 keys_push key texts rs rs' x e = ap (keys key texts) e ∙ map_push (λ y. key y texts) rs x
 
 module _ {R : Type 0} (key : R → List ℕ → List ℕ) (texts : List ℕ) (t t' : Ordered R) (k : List ℕ) (x : R) (absent : Absent (keys key texts (listed t)) k) where
-  pub entered : (r : Result ℕ R) → Pushed t t' x r → Entered (keys key texts (listed t)) k t t' x r
-  entered (Ok i) p = inr (absent, p)
-  entered (Err y) p = (absent, p)
-
   pub entered_distinct : (r : Result ℕ R) → Pushed t t' x r → key x texts ≡ k → Distinct (keys key texts (listed t)) → Distinct (keys key texts (listed t'))
   entered_distinct (Ok i) p m d =
       subst Distinct (sym (keys_push key texts (listed t) (listed t') x p.2 ∙ ap (λ l. keys key texts (listed t) ++ l ∷ []) m))

@@ -1,25 +1,29 @@
 -- The search for a key, record by record.
-use Rattle.std.proofs.Common.{◌≡◌, ℕ, ◌+◌, ◌<◌, ◌≤◌, List, [], length, get_or, sym, ap, ◌∙◌, arith, below_more}
+use Rattle.std.proofs.Common.{◌≡◌, ℕ, ◌<◌, ◌≤◌, List, [], ◌∷◌, length, get_or, Some, None, Option, sym, ◌∙◌, arith}
+use Rattle.std.specs.List.{AllWithin, HoldsAt}
+use Rattle.std.specs.Option.{MatchOption}
 use Rattle.std.proofs.lemmas.List.{get_or-map, length-map}
-use Rattle.ordered.specs.Keys.{keys, First, Absent}
+use Rattle.ordered.specs.Keys.{keys, Found}
 
--- no key before i is k
-abbrev pub Below : List (List ℕ) → List ℕ → ℕ → Type 0
-Below ks k i = (j : ℕ) → j < i → get_or ks j [] ≡ k → ⊥
+module _ {R : Type 0} (key : R → List ℕ → List ℕ) (texts k : List ℕ) where
+  -- a record has the key k
+  abbrev pub Has : R → Type 0
+  Has x = key x texts ≡ k
 
--- a turn at i, over the records rs that were lent, which are the list xs
-module _ {R : Type 0} (key : R → List ℕ → List ℕ) (texts : List ℕ) (xs rs : List R) (same : rs ≡ xs) (k : List ℕ) (i : ℕ) where
-  inside : i < length rs → i < length xs
-  inside l = let e = ap length same in omega arith
+  -- a record has another key
+  abbrev pub Lacks : R → Type 0
+  Lacks x = key x texts ≡ k → ⊥
 
-  key_at : (x : R) → i < length rs → x ≡ get_or rs i x → get_or (keys key texts xs) i [] ≡ key x texts
-  key_at x l e = get_or-map (λ y. key y texts) xs i x [] (inside l) ∙ ap (λ y. key y texts) (sym (e ∙ ap (λ ys. get_or ys i x) same))
+  -- the keys before n are others, if the records are
+  lacking : (d : R) (xs : List R) (n : ℕ) → AllWithin Lacks (d ∷ xs) 0 n → n ≤ length (d ∷ xs) → (j : ℕ) → j < n → get_or (keys key texts (d ∷ xs)) j [] ≡ k → ⊥
+  lacking d xs n a l j m e = a j d (omega arith) m (sym (get_or-map (λ y. key y texts) (d ∷ xs) j d [] (omega arith)) ∙ e)
 
-  pub find_here : (x : R) → i < length rs → x ≡ get_or rs i x → key x texts ≡ k → Below (keys key texts xs) k i → First (keys key texts xs) k i
-  find_here x l e m b = (let n = length-map xs (λ y. key y texts) in let h = inside l in omega arith, key_at x l e ∙ m, b)
-
-  pub find_on : (x : R) → i < length rs → x ≡ get_or rs i x → (key x texts ≡ k → ⊥) → Below (keys key texts xs) k i → Below (keys key texts xs) k (i + 1)
-  find_on x l e m b = below_more (λ j. get_or (keys key texts xs) j [] ≡ k → ⊥) i b (λ q. m (sym (key_at x l e) ∙ q))
-
-  pub find_none : length rs ≤ i → Below (keys key texts xs) k i → Absent (keys key texts xs) k
-  find_none h b j l = b j (let n = length-map xs (λ y. key y texts) in let e = ap length same in omega arith)
+  -- the first record that has the key stands where the key does
+  pub found : (xs : List R) (r : Option ℕ) → MatchOption r (AllWithin Lacks xs 0 (length xs)) (λ i. (i < length xs) × HoldsAt Has xs i × AllWithin Lacks xs 0 i) → Found (keys key texts xs) k r
+  found [] (Some i) m = absurd (omega (arith, m.0))
+  found [] None m = λ j l. absurd (omega (arith, l))
+  found (d ∷ xs) (Some i) m =
+      let n = length-map (d ∷ xs) (λ y. key y texts) in
+      let l = m.0 in
+      (omega arith, get_or-map (λ y. key y texts) (d ∷ xs) i d [] l ∙ m.1 d, lacking d xs i m.2 (omega arith))
+  found (d ∷ xs) None m = λ j l. let n = length-map (d ∷ xs) (λ y. key y texts) in lacking d xs (length (d ∷ xs)) m (omega arith) j (omega arith)

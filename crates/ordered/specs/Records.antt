@@ -1,8 +1,13 @@
 -- A table as its list of records, and what its methods do to that list.
-use Rattle.std.specs.Prelude.{◌≡◌, ℕ, ◌+◌, ◌<◌, ◌≤◌, min, Bool, true, false, ◌⊎◌, List, [], ◌∷◌, ◌++◌, length, take, drop, Ok, Err, Result, slice_set}
+use Rattle.std.specs.Prelude.{◌≡◌, ℕ, ◌+◌, ◌<◌, ◌≤◌, min, ◌⊎◌, List, [], ◌∷◌, ◌++◌, length, take, drop, Some, None, Option, Ok, Err, Result, slice_get, slice_set}
 use denote.Ref.{at_last}
+use Rattle.ordered.specs.declared.table.NoRoom.{NoRoom}
 use Rattle.ordered.specs.declared.table.Ordered.{Ordered}
 use Rattle.ordered.specs.Keys.{First, Absent}
+
+-- the only refusal for want of room
+abbrev pub no_room : NoRoom
+no_room = record {}
 
 -- the list of records of a table, in the order in which they came
 abbrev pub listed : {R : Type 0} → Ordered R → List R
@@ -16,10 +21,11 @@ room t = min t.limit (length t.places.now)
 abbrev pub over : {R : Type 0} → Ordered R → List R → ℕ → Ordered R
 over t xs n = record { places = at_last t.places xs; count = n; limit = t.limit }
 
--- t' is the table t after the record at i was to become x
-abbrev pub Replaced : {R : Type 0} → Ordered R → Ordered R → ℕ → R → Bool → Type 0
-Replaced t t' i x true = (i < length (listed t)) × (listed t' ≡ slice_set (listed t) i x) × (t' ≡ over t (slice_set t.places.now i x) t.count)
-Replaced t t' i x false = (length (listed t) ≤ i) × (t' ≡ t)
+-- t' is the table t after the record at i was to become x; y was there
+abbrev pub Replaced : {R : Type 0} → Ordered R → Ordered R → ℕ → R → Option R → Type 0
+Replaced t t' i x (Some y) =
+    (i < length (listed t)) × (slice_get (listed t) i ≡ Some y) × (listed t' ≡ slice_set (listed t) i x) × (t' ≡ over t (slice_set t.places.now i x) t.count)
+Replaced t t' i x None = (length (listed t) ≤ i) × (t' ≡ t)
 
 -- t' is the table t after the record x was to be appended
 abbrev pub Pushed : {R : Type 0} → Ordered R → Ordered R → R → Result ℕ R → Type 0
@@ -27,11 +33,11 @@ Pushed t t' x (Ok i) = (i ≡ length (listed t)) × (i < room t) × (listed t' �
 Pushed t t' x (Err y) = (y ≡ x) × (room t ≤ length (listed t)) × (t' ≡ t)
 
 -- t' is the table t after all of the list xs was to be appended
-abbrev pub Extended : {R : Type 0} → Ordered R → Ordered R → List R → Bool → Type 0
-Extended t t' xs true =
+abbrev pub Extended : {R : Type 0} → Ordered R → Ordered R → List R → Result (Unit {0}) NoRoom → Type 0
+Extended t t' xs (Ok _) =
     (length (listed t) + length xs ≤ room t) × (listed t' ≡ listed t ++ xs) ×
     (t' ≡ over t (listed t ++ (xs ++ drop (length (listed t) + length xs) t.places.now)) (length (listed t) + length xs))
-Extended t t' xs false = (room t < length (listed t) + length xs) × (t' ≡ t)
+Extended t t' xs (Err _) = (room t < length (listed t) + length xs) × (t' ≡ t)
 
 -- t' is the table t, whose keys are ks, after the record x was to be entered at the key k
 abbrev pub Entered : {R : Type 0} → List (List ℕ) → List ℕ → Ordered R → Ordered R → R → Result ℕ R → Type 0

@@ -1,8 +1,8 @@
 // One table for any record that tells its key, over places that a caller lends.
 //
 // A table means its list of records, in the order in which they came, and the contracts speak of that list. A
-// record is sought by its key: a probe is given field by field, and matches exactly the records with its key. A
-// new record type gives an impl of `Keyed` and has all else from here. No call asks anything of its caller: where
+// record is sought by its key: a probe asks for one, and matches exactly the records that have it. A new record type
+// gives an impl of `Keyed` for each type of probe, and has all else from here. No call asks anything of its caller: where
 // a record or a place is missing, the call says so and leaves the table as it was.
 //
 // `keyed` has what a record shows, `table` the struct, `methods` what can be done with it.
@@ -15,4 +15,4 @@ pub mod table;
 mod tests;
 
 pub use keyed::Keyed;
-pub use table::Ordered;
+pub use table::{NoRoom, Ordered};

@@ -5,7 +5,7 @@ ghost use Rattle.ordered.specs.Keys.{keys, Found, Distinct};
 ghost use Rattle.ordered.specs.Records.{listed, room, over, Pushed, Extended, Replaced, Entered};
 
 use crate::keyed::Keyed;
-use crate::table::Ordered;
+use crate::table::{NoRoom, Ordered};
 
 impl<'a, R> Ordered<'a, R> {
     // The table of the first `count` records in `places`, which is to hold at most `limit`.
@@ -23,44 +23,32 @@ impl<'a, R> Ordered<'a, R> {
     pub fn count(&self) -> usize
         ensures { result ≡ length (listed self.now) }
     {
-        if self.count < self.places.len() {
-            self.count
-        } else {
-            self.places.len()
-        }
+        self.count.min(self.places.len())
     }
 
     // How many records there can be.
     pub fn room(&self) -> usize
         ensures { result ≡ room self.now }
     {
-        if self.limit < self.places.len() {
-            self.limit
-        } else {
-            self.places.len()
-        }
+        self.limit.min(self.places.len())
     }
 
     // The list of records.
     pub fn as_slice(&self) -> &[R]
         ensures { result.now ≡ listed self.now }
     {
-        let places = &*self.places;
-        &places[0..self.count()]
+        &self.places[..self.count()]
     }
 
     // The index of the first record with the probe's key, or `None` where no record has it.
-    pub fn find(&self, texts: &[u8], first: usize, second: usize, bytes: &[u8]) -> Option<usize>
+    pub fn find<P>(&self, texts: &[u8], probe: &P) -> Option<usize>
     where
-        R: Keyed,
-        ensures { Found (keys R.Keyed.key texts.now (listed self.now)) (R.Keyed.asked first second bytes.now) result }
+        R: Keyed<P>,
+        ensures { Found (keys R.Keyed.key texts.now (listed self.now)) (R.Keyed.asked probe.now) result }
     {
-        for (i, item) in self.as_slice().iter().enumerate() {
-            if item.matches(texts, first, second, bytes) {
-                return Some(i);
-            }
-        }
-        None
+        self.as_slice()
+            .iter()
+            .position(|item| item.matches(texts, probe))
     }
 
     // Keeps the first `n` records; all of them if there are fewer.
@@ -68,9 +56,7 @@ impl<'a, R> Ordered<'a, R> {
         ensures list { listed self.new ≡ take n (listed self.old) }
         ensures whole { self.new ≡ over self.old self.old.places.now (min n self.old.count) }
     {
-        if n < self.count {
-            self.count = n;
-        }
+        self.count = n.min(self.count);
     }
 }
 
@@ -79,24 +65,16 @@ impl<'a, R: Copy> Ordered<'a, R> {
     pub fn get(&self, i: usize) -> Option<R>
         ensures { result ≡ slice_get (listed self.now) i }
     {
-        let records = self.as_slice();
-        if i < records.len() {
-            Some(records[i])
-        } else {
-            None
-        }
+        self.as_slice().get(i).copied()
     }
 
-    // Puts `item` in the place of the record at `i`, and answers whether there was one.
-    pub fn set(&mut self, i: usize, item: R) -> bool
+    // Puts `item` in the place of the record at `i`, and answers the record that was there, if there was one.
+    pub fn set(&mut self, i: usize, item: R) -> Option<R>
         ensures { Replaced self.old self.new i item result }
     {
-        if i < self.count() {
-            self.places[i] = item;
-            true
-        } else {
-            false
-        }
+        let found = self.get(i)?;
+        self.places[i] = item;
+        Some(found)
     }
 
     // Appends `item`, and answers its index; or gives it back where there is no room for one more.
@@ -113,37 +91,30 @@ impl<'a, R: Copy> Ordered<'a, R> {
         }
     }
 
-    // Appends all of `more`; or nothing, and answers false, where there is no room for all.
-    pub fn extend(&mut self, more: &[R]) -> bool
+    // Appends all of `more`; or nothing, where there is no room for all.
+    pub fn extend(&mut self, more: &[R]) -> Result<(), NoRoom>
         ensures { Extended self.old self.new more.now result }
     {
         let start = self.count();
-        let room = self.room();
-        if room < start || room - start < more.len() {
-            return false;
+        let free = self.room().checked_sub(start).ok_or(NoRoom)?;
+        if free < more.len() {
+            return Err(NoRoom);
         }
         let end = start + more.len();
         self.places[start..end].copy_from_slice(more);
         self.count = end;
-        true
+        Ok(())
     }
 
     // The index of the first record with the probe's key; where there is none, appends `item` as `push` does.
     // If `item` has the probe's key, distinct keys stay distinct.
-    pub fn enter(
-        &mut self,
-        texts: &[u8],
-        first: usize,
-        second: usize,
-        bytes: &[u8],
-        item: R,
-    ) -> Result<usize, R>
+    pub fn enter<P>(&mut self, texts: &[u8], probe: &P, item: R) -> Result<usize, R>
     where
-        R: Keyed,
-        ensures entered { Entered (keys R.Keyed.key texts.now (listed self.old)) (R.Keyed.asked first second bytes.now) self.old self.new item result }
-        ensures distinct { R.Keyed.key item texts.now ≡ R.Keyed.asked first second bytes.now → Distinct (keys R.Keyed.key texts.now (listed self.old)) → Distinct (keys R.Keyed.key texts.now (listed self.new)) }
+        R: Keyed<P>,
+        ensures entered { Entered (keys R.Keyed.key texts.now (listed self.old)) (R.Keyed.asked probe.now) self.old self.new item result }
+        ensures distinct { R.Keyed.key item texts.now ≡ R.Keyed.asked probe.now → Distinct (keys R.Keyed.key texts.now (listed self.old)) → Distinct (keys R.Keyed.key texts.now (listed self.new)) }
     {
-        match self.find(texts, first, second, bytes) {
+        match self.find(texts, probe) {
             Some(i) => Ok(i),
             None => self.push(item),
         }

@@ -9,3 +9,7 @@ pub struct Ordered<'a, R> {
     pub(crate) count: usize,
     pub(crate) limit: usize,
 }
+
+// There is no room for what was to be appended.
+#[derive(Clone, Copy, Debug, PartialEq, Eq)]
+pub struct NoRoom;

@@ -3,7 +3,7 @@ use Rattle.std.proofs.Common.{◌≡◌, ℕ, zero, suc, ◌<◌, List, [], ◌�
 use Rattle.std.specs.List.{slice_get}
 use Rattle.std.proofs.lemmas.List.{length-append}
 use Rattle.symbols.specs.declared.fault.Fault.{Fault}
-use Rattle.symbols.specs.declared.fault.Spot.{Spot}
+use Rattle.symbols.specs.Faults.{Spot}
 use Rattle.symbols.specs.declared.table.SymbolTable.{SymbolTable}
 use Rattle.symbols.specs.declared.table.SymbolTableType.{SymbolTableType}
 use Rattle.store.specs.Held.{Held, Room, done}
@@ -12,6 +12,7 @@ use Rattle.store.specs.Tables.{new_table, open_table}
 use Rattle.store.specs.Throughout.{held_in}
 use Rattle.store.proofs.Inversion.{not_both}
 use Rattle.store.proofs.Others.{interned_keeps}
+use Rattle.store.proofs.TableOpens.{nth_last}
 use Rattle.scan.specs.Entering.{Entering, opens, closes, standing, opened, or_stay, step}
 use Rattle.scan.specs.Runs.{Runs}
 use Rattle.scan.proofs.Compose.{went, stepped, and_then}
@@ -27,10 +28,6 @@ pub nth_front : {X : Type 0} (xs ys : List X) (i : ℕ) → i < length xs → sl
 nth_front [] ys i l = absurd (omega arith)
 nth_front (x ∷ xs) ys zero l = refl
 nth_front (x ∷ xs) ys (suc i) l = nth_front xs ys i (omega arith)
-
-nth_last : {X : Type 0} (xs : List X) (x : X) → slice_get (xs ++ x ∷ []) (length xs) ≡ Some x
-nth_last [] x = refl
-nth_last (y ∷ xs) x = nth_last xs x
 
 -- it still does after a run
 pub stands_still : {room : Room} {h : Held} {t : ℕ} {es : List Entering} {r : Result (Unit {0}) Fault} {k : Held} {u a b : ℕ} → StandsIn h a b → Runs room h t es r k u → StandsIn k a b
@@ -52,7 +49,7 @@ module _ (room : Room) (h : Held) (t : ℕ) (k : SymbolTableType) (name : List �
       let n = length-append h.tables (new x ∷ []) in
       record {
         within = subst (λ ts. u < length ts) (sym e) (omega arith);
-        around = ap (λ ts. parent_by (slice_get ts u)) e ∙ ap (λ i. parent_by (slice_get (h.tables ++ new x ∷ []) i)) l ∙ ap parent_by (nth_last h.tables (new x));
+        around = ap (λ ts. parent_by (slice_get ts u)) e ∙ ap (λ i. parent_by (slice_get (h.tables ++ new x ∷ []) i)) l ∙ ap parent_by (nth_last h.tables (new x) (length h.tables) refl);
       }
 
   by_outcome : opened t (length h.tables) (open_table room h (Some t) k name s) ≡ standing u (done h₁) → StandsIn h₁ u t

@@ -2,12 +2,11 @@
 use Rattle.std.proofs.Common.{◌≡◌, ℕ, Bool, true, false, cond, List, [], ◌∷◌, ◌++◌, length, is_ok, IsErrAnd, Some, Ok, Err, Result, sym, refl, ap, ◌∙◌, subst}
 use Rattle.symbols.specs.declared.fault.Fault.{Fault}
 use Rattle.symbols.specs.declared.fault.ScanReason.{ScanReason}
-use Rattle.symbols.specs.declared.fault.Spot.{Spot}
 use Rattle.store.specs.declared.memory.Memory.{Memory}
 use Rattle.symbols.specs.declared.table.SymbolTableType.{SymbolTableType}
 use Rattle.symbols.specs.declared.usage.SymbolUsage.{SymbolUsage}
 use Rattle.store.specs.Enterings.{enter}
-use Rattle.symbols.specs.Faults.{scan_fault}
+use Rattle.symbols.specs.Faults.{Spot, scan_fault}
 use Rattle.store.specs.Held.{Held, Outcome, done, refused}
 use Rattle.store.specs.Mangling.{mangled}
 use Rattle.store.specs.Memory.{held, room_of, Leaves, Does}

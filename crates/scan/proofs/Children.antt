@@ -13,9 +13,6 @@ use Rattle.scan.specs.Enterings.{part_of, parts_of, made_of}
 use Rattle.scan.specs.Parts.{◌▸◌}
 use Rattle.scan.specs.Places.{Here, Row, ReadsAs, Slotted, spot_at, NoChild, OneChild, TwoChildren, ThreeChildren, FourChildren, Elements}
 
-apart : {X : Type 0} → ◌≡◌ {A = ℕ} 0 1 → X
-apart z = absurd (omega arith)
-
 -- the first of a row whose first place is known, and the row after it
 pub record Head (bs : List ℕ) (t : Trailer) (pos e a : ℕ) (as' : List ℕ) (ts : Trees) : Type 0 where
   pub tree : Tree
@@ -30,7 +27,7 @@ pub record Head (bs : List ℕ) (t : Trailer) (pos e a : ℕ) (as' : List ℕ) (
 
 module _ (bs : List ℕ) (t : Trailer) where
   pub head : (pos e a : ℕ) (as' : List ℕ) (ts : Trees) → Row bs t pos e ts → places pos ts ≡ a ∷ as' → Head bs t pos e a as' ts
-  head pos e a as' none r p = apart (cc)
+  head pos e a as' none r p = absurd (grind arith)
   head pos e a as' (more x xs) r p =
       let at : pos ≡ a = cc in
       let next : places (pos + length (tree_records x)) xs ≡ as' = cc in
@@ -53,7 +50,7 @@ module _ (bs : List ℕ) (t : Trailer) where
   -- no more trees than places
   pub no_more : (pos : ℕ) (ts : Trees) → places pos ts ≡ [] → ts ≡ none
   no_more pos none p = refl
-  no_more pos (more x xs) p = apart (cc)
+  no_more pos (more x xs) p = absurd (grind arith)
 
   -- a node by its row of children
   pub record Below (i : ℕ) (x : Tree) : Type 0 where

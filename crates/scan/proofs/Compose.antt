@@ -2,24 +2,20 @@
 use Rattle.std.proofs.Common.{◌≡◌, ℕ, Bool, true, false, cond, List, [], ◌∷◌, ◌++◌, IsErrAnd, Ok, Err, Result, sym, refl, ap, ◌∙◌, subst, arith}
 use Rattle.symbols.specs.declared.fault.Fault.{Fault}
 use Rattle.symbols.specs.declared.fault.ScanReason.{ScanReason}
-use Rattle.symbols.specs.declared.fault.Spot.{Spot}
-use Rattle.symbols.specs.Faults.{scan_fault}
+use Rattle.symbols.specs.Faults.{Spot, scan_fault}
 use Rattle.store.specs.Held.{Held, Room, Outcome, done, refused}
 use Rattle.scan.specs.Entering.{Entering, standing, refuses, step, onward, go_on, run}
 use Rattle.scan.specs.Runs.{AgreesBy, Agrees, Runs}
 use Rattle.scan.proofs.Turns.{run_++, run_one}
 
-apart : {X : Type 0} → ◌≡◌ {A = ℕ} 0 1 → X
-apart z = absurd (omega arith)
-
 -- where the answer is Ok, all was done
 ok_done : (t : ℕ) (o : Outcome) (k : Held) (u : ℕ) → AgreesBy t o (Ok tt) k u → standing t o ≡ standing u (done k)
 ok_done t (done h) k u a = λ i. standing (sym a.2 i) (done (sym a.1 i))
-ok_done t (refused h f) k u a = apart (let e = a.0 in cc)
+ok_done t (refused h f) k u a = (let e = a.0 in absurd (grind arith))
 
 -- where it is Err, something was refused
 err_refused : (t : ℕ) (o : Outcome) (f : Fault) (k : Held) (u : ℕ) → AgreesBy t o (Err f) k u → o ≡ refused k f
-err_refused t (done h) f k u a = apart (let e = a.0 in cc)
+err_refused t (done h) f k u a = (let e = a.0 in absurd (grind arith))
 err_refused t (refused h g) f k u a = let e : f ≡ g = (let d = a.0 in cc) in λ i. refused (sym a.1 i) (sym e i)
 
 module _ {room : Room} {h : Held} {t : ℕ} {es : List Entering} where
@@ -80,10 +76,10 @@ pub if_taken :
     {room : Room} {h k : Held} {t u : ℕ} {r : Result (Unit {0}) Fault} (b : Bool) (xs ys : List Entering) →
     b ≡ true → Runs room h t xs r k u → Runs room h t (cond b xs ys) r k u
 if_taken true xs ys e p = p
-if_taken false xs ys e p = apart (cc)
+if_taken false xs ys e p = absurd (grind arith)
 
 pub if_left :
     {room : Room} {h k : Held} {t u : ℕ} {r : Result (Unit {0}) Fault} (b : Bool) (xs ys : List Entering) →
     b ≡ false → Runs room h t ys r k u → Runs room h t (cond b xs ys) r k u
-if_left true xs ys e p = apart (cc)
+if_left true xs ys e p = absurd (grind arith)
 if_left false xs ys e p = p

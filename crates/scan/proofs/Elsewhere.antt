@@ -1,9 +1,10 @@
 -- What begins in the module enters names in the module and in new tables only.
 use Rattle.std.proofs.Common.{◌≡◌, ℕ, zero, suc, ◌<◌, ◌≤◌, Bool, true, false, cond, eqb, ltb, ◌⊎◌, List, [], ◌∷◌, ◌++◌, length, Some, None, filter, Option, refl, ap, ◌∙◌, subst, inl, inr, arith}
-use Rattle.std.specs.List.{slice_get, AllByRecursion}
+use Rattle.std.specs.List.{slice_get, All}
+use Rattle.std.proofs.lemmas.List.Elements.{All-nil, All-cons}
 use Rattle.std.proofs.lemmas.List.{length-append}
 use Rattle.std.proofs.lemmas.Option.{slice_get_past}
-use Rattle.symbols.specs.declared.fault.Spot.{Spot}
+use Rattle.symbols.specs.Faults.{Spot}
 use Rattle.symbols.specs.declared.table.SymbolTable.{SymbolTable}
 use Rattle.symbols.specs.declared.table.SymbolTableType.{SymbolTableType}
 use Rattle.store.specs.Held.{Held, Room}
@@ -85,16 +86,16 @@ module _ (n : ℕ) where
 
     -- none of these tables is v
     abbrev Misses : Way → Type 0
-    Misses w = AllByRecursion (λ u. v ≡ u → ⊥) w.through × (v ≡ w.host → ⊥)
+    Misses w = All (λ u. v ≡ u → ⊥) w.through × (v ≡ w.host → ⊥)
 
     further_new : (ts : List SymbolTable) (t : ℕ) (next : ℕ → Way) (o : Option ℕ) → around_comprehension ts t ≡ o → Fresh ts t → ((p : ℕ) → Fresh ts p → Misses (next p)) → Misses (further o t next)
     further_new ts t next (Some p) e j goes =
         let w = goes p (fresh_around ts t p (around_parent t p (slice_get ts t) e) j) in
-        ((not_new t j.open_new, w.0), w.1)
-    further_new ts t next None e j goes = (tt, not_new t j.open_new)
+        (All-cons (λ u. v ≡ u → ⊥) t (next p).through (not_new t j.open_new) w.0, w.1)
+    further_new ts t next None e j goes = (All-nil (λ u. v ≡ u → ⊥), not_new t j.open_new)
 
     way_new : (ts : List SymbolTable) (m t : ℕ) → Fresh ts t → Misses (way_from ts m t)
-    way_new ts zero t j = (tt, not_new t j.open_new)
+    way_new ts zero t j = (All-nil (λ u. v ≡ u → ⊥), not_new t j.open_new)
     way_new ts (suc m) t j = further_new ts t (way_from ts m) (around_comprehension ts t) refl j (λ p k. way_new ts m p k)
 
     -- one entering does not touch table v

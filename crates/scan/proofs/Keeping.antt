@@ -1,10 +1,10 @@
 -- What each entering keeps to, runs keep to.
 use Rattle.std.proofs.Common.{◌≡◌, ℕ, ◌<◌, ltb, List, [], ◌∷◌, ◌++◌, length, get_or, Some, None, Option, Result, sym, refl, ap, subst}
-use Rattle.std.specs.List.{AllByRecursion}
+use Rattle.std.specs.List.{All}
 use Rattle.std.proofs.lemmas.Bool.{cond_both}
 use Rattle.symbols.specs.declared.fault.Fault.{Fault}
 use Rattle.symbols.specs.declared.fault.MemoryReason.TheVariants as lack
-use Rattle.symbols.specs.declared.fault.Spot.{Spot}
+use Rattle.symbols.specs.Faults.{Spot}
 use Rattle.symbols.specs.declared.table.SymbolTableType.{SymbolTableType}
 use Rattle.store.specs.Enterings.{no_symbol}
 use Rattle.symbols.specs.Faults.{memory_fault}
@@ -35,9 +35,8 @@ module _ (room : Room) (h : Held) (around : Option ℕ) (k : SymbolTableType) (n
     unfolding open_table
     open_cases = by_name (interned room h name) refl
 
-pub all_of_nothing : (ts : List ℕ) → AllByRecursion (λ t. Unit {0}) ts
-all_of_nothing [] = tt
-all_of_nothing (t ∷ ts) = (tt, all_of_nothing ts)
+pub all_of_nothing : (ts : List ℕ) → All (λ t. Unit {0}) ts
+all_of_nothing ts = λ k d l. tt
 
 module _ (R : Held → Held → Type 0) (none : (h : Held) → R h h) (on : (h k l : Held) → R h k → R k l → R h l) where
   module _ (names : Throughout (λ h t. Unit {0}) R) (table : (room : Room) (h : Held) (t : ℕ) (k : SymbolTableType) (name : List ℕ) (s : Spot) → R h (held_in (open_table room h (Some t) k name s))) where

@@ -1,11 +1,10 @@
 -- What a scan does, step by step: enterings, and what they make of what is held.
 use Rattle.std.specs.Prelude.{ℕ, List, [], ◌∷◌, length, Some, None, Option}
-use Rattle.symbols.specs.declared.fault.Spot.{Spot}
 use Rattle.symbols.specs.declared.fault.ScanReason.{ScanReason}
 use Rattle.symbols.specs.declared.table.SymbolTableType.{SymbolTableType}
 use Rattle.symbols.specs.declared.usage.SymbolUsage.{SymbolUsage}
 use Rattle.store.specs.Enterings.{enter}
-use Rattle.symbols.specs.Faults.{scan_fault}
+use Rattle.symbols.specs.Faults.{Spot, scan_fault}
 use Rattle.store.specs.Held.{Held, Room, Outcome, done, refused}
 use Rattle.store.specs.Mangling.{mangled}
 use Rattle.store.specs.Outward.{enter_target, enter_import, enter_use}

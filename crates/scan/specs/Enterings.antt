@@ -1,7 +1,7 @@
 -- What a tree enters, by syntax alone: the table, with one clause a kind, and the tree that it is read from.
 use Rattle.std.specs.Prelude.{ℕ, ◌+◌, Bool, false, ◌&&◌, ◌||◌, List, [], length, codes, ◌==◌}
 use Rattle.std.specs.Str.{bytes_eq}
-use Rattle.symbols.specs.declared.fault.Spot.{Spot}
+use Rattle.symbols.specs.Faults.{Spot}
 use Rattle.symbols.specs.declared.fault.ScanReason.TheVariants as reason
 use Rattle.symbols.specs.declared.table.SymbolTableType.TheVariants as table
 use Rattle.symbols.specs.declared.usage.SymbolUsage.TheVariants as role

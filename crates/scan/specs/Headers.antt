@@ -1,6 +1,6 @@
 -- The words of the table for functions and comprehensions.
 use Rattle.std.specs.Prelude.{ℕ, Bool, cond, List, ◌==◌}
-use Rattle.symbols.specs.declared.fault.Spot.{Spot}
+use Rattle.symbols.specs.Faults.{Spot}
 use Rattle.symbols.specs.declared.table.SymbolTableType.TheVariants as table
 use Rattle.symbols.specs.declared.usage.SymbolUsage.{SymbolUsage}
 use Rattle.symbols.specs.declared.usage.SymbolUsage.TheVariants as role

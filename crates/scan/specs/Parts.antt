@@ -1,6 +1,6 @@
 -- A tree as the scan reads it: each node with where it stands, what it says, how it is scanned, and its children.
 use Rattle.std.specs.Prelude.{ℕ, Bool, false, List, [], Some, None, Option}
-use Rattle.symbols.specs.declared.fault.Spot.{Spot}
+use Rattle.symbols.specs.Faults.{Spot}
 use Rattle.treefile.specs.Trees.{Label}
 use Rattle.scan.specs.Kinds.{Kind, kind_from}
 use Rattle.scan.specs.Scans.{Scan, nothing, ◌⨾◌, deferring}

@@ -5,7 +5,7 @@ use Rattle.treefile.specs.Records.{size_at}
 use Rattle.treefile.specs.Spelling.{StandsAt, RowAt, label_at}
 use Rattle.treefile.specs.Slots.{columns}
 use Rattle.treefile.specs.Trees.{Tree, Trees, none, more, tree_records, trees_records, slotted, well_formed, all_well_formed}
-use Rattle.symbols.specs.declared.fault.Spot.{Spot}
+use Rattle.symbols.specs.Faults.{Spot}
 use Rattle.scan.specs.Enterings.{part_of, parts_of, made_of}
 use Rattle.scan.specs.Parts.{Parts, end, ◌▸◌}
 

@@ -1,6 +1,6 @@
 -- The words of the table: how the children of a node are scanned.
 use Rattle.std.specs.Prelude.{ℕ, Bool, cond, ◌&&◌, List, [], ◌∷◌, Some, None, codes, Option, ◌==◌}
-use Rattle.symbols.specs.declared.fault.Spot.{Spot}
+use Rattle.symbols.specs.Faults.{Spot}
 use Rattle.symbols.specs.declared.usage.SymbolUsage.{SymbolUsage}
 use Rattle.symbols.specs.declared.usage.SymbolUsage.TheVariants as role
 use Rattle.scan.specs.declared.context.ExpressionContext.{ExpressionContext}

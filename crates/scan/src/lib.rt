@@ -7,8 +7,6 @@ pub mod context;
 mod read;
 
 // The laws of runs.
-pub fn run_laws() -> u8
+pub fn run_laws()
     ensures { RunLaws }
-{
-    0
-}
+{}

@@ -3,11 +3,11 @@ use Rattle.std.proofs.Common.{◌≡◌, ℕ, Bool, true, false, ◌&&◌, ◌||
 use lib.Bits.{bit_and, bit_or, or_zero_r}
 use Rattle.std.specs.Option.{option_or}
 use Rattle.std.specs.Bool.{then_some}
-use Rattle.std.specs.List.{AllByRecursion}
-use Rattle.std.proofs.ByRecursion.{All-get_or, All-push, All-set}
+use Rattle.std.specs.List.{All}
+use Rattle.std.proofs.lemmas.List.Elements.{All-get_or, All-push, All-set}
 use Rattle.std.proofs.lemmas.Bool.{both_ways, or_cases}
 use Rattle.symbols.specs.declared.fault.ScanReason.TheVariants as reason
-use Rattle.symbols.specs.declared.fault.Spot.{Spot}
+use Rattle.symbols.specs.Faults.{Spot}
 use Rattle.symbols.specs.declared.symbol.Symbol.{Symbol}
 use Rattle.symbols.specs.declared.usage.SymbolUsage.{SymbolUsage}
 use Rattle.symbols.specs.declared.usage.SymbolUsage.TheVariants as role
@@ -90,9 +90,9 @@ consistent_first r t x spot = record { one_way = one_way_first r (declares r); o
 
 pub consistent_stays : ConsistentStays
 consistent_stays =
-    throughout Anywhere (λ h k. AllByRecursion Consistent h.symbols → AllByRecursion Consistent k.symbols) (λ h a. a) (λ h k l p q a. q (p a)) (λ h k t r a. tt)
+    throughout Anywhere (λ h k. All Consistent h.symbols → All Consistent k.symbols) (λ h a. a) (λ h k l p q a. q (p a)) (λ h k t r a. tt)
     (λ room h t role text spot _.
-    enter_cases room h t role text spot (λ o. AllByRecursion Consistent h.symbols → AllByRecursion Consistent (held_in o).symbols)
+    enter_cases room h t role text spot (λ o. All Consistent h.symbols → All Consistent (held_in o).symbols)
     (λ x i w a.
     let s = get_or h.symbols i no_symbol in
     let c = All-get_or Consistent h.symbols i no_symbol (symbol_there h t x i w.stands).0 a in

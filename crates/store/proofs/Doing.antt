@@ -16,10 +16,6 @@ pub leaves_refused : (o : Outcome) (k : Held) (f : Fault) → Leaves {A = Unit {
 leaves_refused (done h) k f l = absurd (apart (let e = l.0 in cc))
 leaves_refused (refused h g) k f l = let e : g ≡ f = (let q = l.0 in cc) in ap (refused h) e ∙ ap (λ x. refused x f) (sym l.1)
 
--- nothing is done
-pub does_nothing : (m : Memory) → Does m (done (held m)) (Ok tt) m
-does_nothing m = record { leaves = (refl, refl); keeps = keeps_refl m }
-
 -- nothing is done but to refuse
 pub does_refuse : (m : Memory) (f g : Fault) → g ≡ f → Does m (refused (held m) f) (Err g) m
 does_refuse m f g e = record { leaves = (ap Err e, refl); keeps = keeps_refl m }

@@ -1,9 +1,10 @@
 -- What a call leaves of the places: they are the same, and as many.
-use Rattle.std.proofs.Common.{◌≡◌, ℕ, ◌+◌, min, Bool, true, false, List, [], ◌++◌, length, drop, set, Ok, Err, Result, sym, refl, ap, ◌∙◌, append_assoc, append-nil, arith}
+use Rattle.std.proofs.Common.{◌≡◌, ℕ, ◌+◌, min, List, [], ◌++◌, length, drop, set, Some, None, Option, Ok, Err, Result, sym, refl, ap, ◌∙◌, append_assoc, append-nil, arith}
 use native.Mathlib.Nat.{min-le_right}
 use Rattle.std.proofs.lemmas.List.{length-set, length-append, length-drop}
+use Rattle.ordered.specs.declared.table.NoRoom.{NoRoom}
 use Rattle.ordered.specs.declared.table.Ordered.{Ordered}
-use Rattle.ordered.specs.Records.{listed, room, over, Pushed, Extended, Replaced}
+use Rattle.ordered.specs.Records.{listed, room, over, Extended, Replaced}
 use Rattle.store.specs.declared.memory.Memory.{Memory}
 use Rattle.store.specs.Grown.{Longer}
 use Rattle.store.specs.Memory.{SamePlaces, Keeps, marks, room_of}
@@ -37,16 +38,12 @@ module _ {R : Type 0} where
     size = ap (λ u. length u.places.now) e ∙ h;
   }
 
-  pub same_pushed : (t t' : Ordered R) (x : R) (r : Result ℕ R) → Pushed t t' x r → SamePlaces t t'
-  same_pushed t t' x (Ok i) p = same_over t t' (set t.places.now i x) (i + 1) p.3 (length-set t.places.now i x)
-  same_pushed t t' x (Err y) p = same_is t t' p.2
+  pub same_replaced : (t t' : Ordered R) (i : ℕ) (x : R) (r : Option R) → Replaced t t' i x r → SamePlaces t t'
+  same_replaced t t' i x (Some y) p = same_over t t' (set t.places.now i x) t.count p.3 (length-set t.places.now i x)
+  same_replaced t t' i x None p = same_is t t' p.1
 
-  pub same_replaced : (t t' : Ordered R) (i : ℕ) (x : R) (r : Bool) → Replaced t t' i x r → SamePlaces t t'
-  same_replaced t t' i x true p = same_over t t' (set t.places.now i x) t.count p.2 (length-set t.places.now i x)
-  same_replaced t t' i x false p = same_is t t' p.1
-
-  pub same_extended : (t t' : Ordered R) (xs : List R) (r : Bool) → Extended t t' xs r → SamePlaces t t'
-  same_extended t t' xs true p =
+  pub same_extended : (t t' : Ordered R) (xs : List R) (r : Result (Unit {0}) NoRoom) → Extended t t' xs r → SamePlaces t t'
+  same_extended t t' xs (Ok _) p =
       let ls = listed t in
       let rest = drop (length ls + length xs) t.places.now in
       let w = min-le_right t.limit (length t.places.now) in
@@ -55,7 +52,7 @@ module _ {R : Type 0} where
       let d = length-drop (length ls + length xs) t.places.now in
       let f = p.0 in
       same_over t t' (ls ++ (xs ++ rest)) (length ls + length xs) p.2 (omega (arith, a, b, d, w, f))
-  same_extended t t' xs false p = same_is t t' p.1
+  same_extended t t' xs (Err _) p = same_is t t' p.1
 
   pub same_truncated : (t t' : Ordered R) (n : ℕ) → t' ≡ over t t.places.now (min n t.count) → SamePlaces t t'
   same_truncated t t' n e = same_over t t' t.places.now (min n t.count) e refl

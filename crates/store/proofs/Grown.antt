@@ -2,7 +2,7 @@
 use Rattle.std.proofs.Common.{◌≡◌, ℕ, ◌<◌, List, [], ◌∷◌, ◌++◌, length, get_or, set, sym, refl, ◌∙◌, subst, inl, inr, arith}
 use Rattle.std.proofs.lemmas.List.{length_push, length-set, get_or_append_left, get_or-set_same, get_or-set_other}
 use Rattle.std.proofs.lemmas.Bool.{cases_eq, or_left}
-use Rattle.symbols.specs.declared.fault.Spot.{Spot}
+use Rattle.symbols.specs.Faults.{Spot}
 use Rattle.symbols.specs.declared.symbol.Symbol.{Symbol}
 use Rattle.symbols.specs.declared.usage.SymbolUsage.{SymbolUsage}
 use Rattle.store.specs.Enterings.{again, enter, entered, no_symbol}
@@ -16,15 +16,14 @@ use Rattle.store.proofs.Masks.{has_self, has_trans, joined_has_left}
 use Rattle.store.proofs.Runs.{throughout}
 
 pub grown_self : (s : Symbol) → Grown s s
-grown_self s = record { table = refl; name = refl; node = refl; row = refl; masks = has_self s.flags.bits; global = λ e. e }
+grown_self s = record { table = refl; name = refl; spot = refl; masks = has_self s.flags.bits; global = λ e. e }
 
 pub grown_on : (a b c : Symbol) → Grown a b → Grown b c → Grown a c
 grown_on a b c p q =
     record {
       table = q.table ∙ p.table;
       name = q.name ∙ p.name;
-      node = q.node ∙ p.node;
-      row = q.row ∙ p.row;
+      spot = q.spot ∙ p.spot;
       masks = has_trans c.flags.bits b.flags.bits a.flags.bits q.masks p.masks;
       global = λ e. q.global (p.global e);
     }
@@ -35,8 +34,7 @@ grown_again role s =
     record {
       table = refl;
       name = refl;
-      node = refl;
-      row = refl;
+      spot = refl;
       masks = joined_has_left s.flags.bits (masks_of role);
       global = or_left s.global (declares_global role);
     }

@@ -1,10 +1,12 @@
 -- What interning leaves: nothing else, and the texts that were held.
-use Rattle.std.proofs.Common.{◌≡◌, ℕ, Bool, true, false, cond, List, length, take, Some, None, Option, sym, refl, ap, ◌∙◌, subst}
+use Rattle.std.proofs.Common.{◌≡◌, ℕ, Bool, true, false, cond, List, length, take, Some, None, Ok, Option, sym, refl, ap, ◌∙◌, subst}
 use Rattle.std.proofs.lemmas.List.{take_at}
 use Rattle.store.specs.Held.{Held, Room}
 use Rattle.store.specs.Grown.{Longer}
-use Rattle.store.specs.Memory.{Numbers}
-use Rattle.store.specs.Texts.{Interned, fits_in, with_text, number_of, interned_by, interned}
+use Rattle.store.specs.declared.memory.Counts.{Counts}
+use Rattle.store.specs.declared.memory.Memory.{Memory}
+use Rattle.store.specs.Memory.{Numbers, counts_of, held, room_of}
+use Rattle.store.specs.Texts.{Interned, fits_in, with_text, number_of, interned_by, interned, with_first}
 use Rattle.store.proofs.Frames.{longer_refl}
 use Rattle.store.proofs.Never.{apart}
 
@@ -40,14 +42,23 @@ pub record Answered (h : Held) (o : Option Interned) (x : ℕ) (k : Held) : Type
   pub number : x ≡ one.number
   pub held : k ≡ one.held
 
-pub numbers_some : (h : Held) (o : Option Interned) (x : ℕ) (k : Held) → Numbers h o (Some x) k → Answered h o x k
+pub numbers_some : (h : Held) (o : Option Interned) (x : ℕ) (k : Held) → Numbers h o (Ok x) k → Answered h o x k
 numbers_some h (Some i) x k n = record { one = i; is = refl; number = (let e = n.0 in cc); held = n.1 }
 numbers_some h None x k n = absurd (apart (let e = n.0 in cc))
-
-pub numbers_none : (h : Held) (o : Option Interned) (k : Held) → Numbers h o None k → (o ≡ None) × (k ≡ h)
-numbers_none h (Some i) k n = absurd (apart (let e = n.0 in cc))
-numbers_none h None k n = (refl, n.1)
 
 -- texts that were added are cut off again
 pub cut_longer : {X : Type 0} (xs ys : List X) (n : ℕ) → Longer xs ys → n ≡ length xs → take n ys ≡ xs
 cut_longer xs ys n l e = ap (take n) l.is ∙ take_at xs l.rest n (sym e)
+
+-- memory that took back the text that was interned holds what it held
+pub taken_back : (m m₁ m₃ : Memory) (text : List ℕ) (x : ℕ) (n : Counts) → Numbers (held m) (interned (room_of m) (held m) text) (Ok x) (held m₁) → n ≡ counts_of m →
+    held m₃ ≡ with_first (held m₁) n.texts n.bytes → held m₃ ≡ held m
+taken_back m m₁ m₃ text x n numbers counts back =
+    let a = numbers_some (held m) (interned (room_of m) (held m) text) x (held m₁) numbers in
+    let more = subst (MoreTexts (held m)) (sym a.held) (interned_more (room_of m) (held m) text a.one a.is) in
+    back ∙ (λ i. record {
+      tables = more.tables i;
+      symbols = more.symbols i;
+      texts = cut_longer (held m).texts (held m₁).texts n.texts more.texts (ap (λ c. c.texts) counts) i;
+      bytes = cut_longer (held m).bytes (held m₁).bytes n.bytes more.bytes (ap (λ c. c.bytes) counts) i;
+    })

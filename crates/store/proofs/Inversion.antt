@@ -4,10 +4,9 @@ use Rattle.std.proofs.lemmas.Bool.{cond_both, ltb-true, ltb-false}
 use Rattle.symbols.specs.declared.fault.Fault.{Fault}
 use Rattle.symbols.specs.declared.fault.MemoryReason.TheVariants as lack
 use Rattle.symbols.specs.declared.fault.ScanReason.{ScanReason}
-use Rattle.symbols.specs.declared.fault.Spot.{Spot}
 use Rattle.symbols.specs.declared.usage.SymbolUsage.{SymbolUsage}
 use Rattle.store.specs.Enterings.{again, entered, enter, enter_again, enter_at, enter_first, enter_new, first_objection, kind_of, no_symbol, objection, stands_at, stands_by, symbol_of, with_symbols}
-use Rattle.symbols.specs.Faults.{memory_fault, scan_fault}
+use Rattle.symbols.specs.Faults.{Spot, memory_fault, scan_fault}
 use Rattle.store.specs.Held.{Held, Room, Outcome, done, refused}
 use Rattle.store.specs.Texts.{Interned, fits_in, interned, interned_by, number_of, with_text}
 

@@ -8,7 +8,6 @@ pub mod First
 pub mod Frames
 pub mod Grown
 pub mod Interned
-pub mod Interning
 pub mod Inversion
 pub mod Masks
 pub mod Names
@@ -24,7 +23,6 @@ pub mod Rooms
 pub mod Runs
 pub mod Sequence
 pub mod SoundStays
-pub mod Strips
 pub mod TableNames
 pub mod TableOpens
 pub mod Taken

@@ -1,10 +1,9 @@
 -- What tells a private name, and the class's part of it.
-use Rattle.std.proofs.Common.{◌≡◌, ℕ, true, false, cond, eqb, List, [], ◌∷◌, ◌++◌, reverse, drop, codes, Decides, sym, refl, ap, ◌∙◌}
-use Rattle.std.specs.List.{ContainsAt as Has}
+use Rattle.std.proofs.Common.{◌≡◌, ℕ, true, eqb, List, [], ◌∷◌, ◌++◌, reverse, drop, Decides, sym, ap, ◌∙◌}
 use Rattle.std.proofs.lemmas.List.{reverse-append, reverse-reverse}
 use Rattle.std.proofs.lemmas.Bool.{and_parts, eqb-true, false≢true}
-use Rattle.std.proofs.lemmas.Bool.Decides.{Decides-by_or, Decides-eqb, Decides-like}
-use Rattle.store.specs.Mangling.{underscore, begins_with_two, ends_in_two, dotted, is_private, stripped, under, class_part, mangled}
+use Rattle.std.proofs.lemmas.Bool.Decides.{Decides-like}
+use Rattle.store.specs.Mangling.{underscore, begins_with_two, ends_in_two}
 
 -- two underscores
 abbrev pub two : List ℕ
@@ -28,17 +27,3 @@ ends_decides xs =
     (λ p. (reverse p.0, sym (reverse-reverse xs) ∙ ap reverse p.1 ∙ reverse-append two p.0))
     (λ p. (reverse p.0, ap reverse p.1 ∙ reverse-append p.0 two))
     (begins_decides (reverse xs))
-
--- to be dotted is to have a dot
-pub dotted_decides : (xs : List ℕ) → Decides (dotted xs) (Has xs 46)
-dotted_decides = Decides-by_or (λ b. eqb b 46) (λ b. b ≡ 46) dotted (λ b. Decides-eqb b 46) refl (λ _ _. refl)
-
--- a name under the class's part is the name that is entered
-pub under_class : (class name : List ℕ) → under (class_part class name) name ≡ mangled class name
-under_class class name =
-    elim (is_private name) as (λ v. under (cond v (stripped class) []) name ≡ cond v (under (stripped class) name) name)
-    [ true ↦ refl | false ↦ refl ]
-
--- `__class__` is not private
-pub mangled_class : (class : List ℕ) → mangled class (codes "__class__") ≡ codes "__class__"
-mangled_class class = refl

@@ -1,7 +1,7 @@
 -- A sound table has no name twice, and its names stay when another table is opened.
 use Rattle.std.proofs.Common.{◌≡◌, ℕ, zero, suc, ◌<◌, Bool, true, eqb, List, [], ◌∷◌, map, length, get_or, filter, sym, ap, ◌∙◌, ap₂, arith}
-use Rattle.std.specs.List.{AllByRecursion}
-use Rattle.std.proofs.ByRecursion.{All-from_get_or, All-get_or, all_kept_by, All-map, All-weaker}
+use Rattle.std.specs.List.{All}
+use Rattle.std.proofs.lemmas.List.Elements.{All-filter, All-from_get_or, All-get_or, All-head, All-map, All-tail, All-weaker}
 use Rattle.std.proofs.lemmas.List.{length-map}
 use Rattle.std.proofs.lemmas.Bool.{cond_both, eqb-true}
 use Rattle.ordered.specs.Keys.{Distinct}
@@ -18,16 +18,16 @@ use Rattle.store.proofs.SoundStays.{PlacedIn}
 -- R holds of each two, the earlier first
 abbrev EachTwo : {X : Type 0} → (X → X → Type 0) → List X → Type 0
 EachTwo R [] = Unit {0}
-EachTwo R (x ∷ xs) = AllByRecursion (R x) xs × EachTwo R xs
+EachTwo R (x ∷ xs) = All (R x) xs × EachTwo R xs
 
 -- f tells two apart
 abbrev ApartBy : {X : Type 0} → (X → List ℕ) → X → X → Type 0
 ApartBy f x y = f x ≡ f y → ⊥
 
-distinct_head : (x : List ℕ) (ks : List (List ℕ)) → Distinct (x ∷ ks) → AllByRecursion (λ k. x ≡ k → ⊥) ks
+distinct_head : (x : List ℕ) (ks : List (List ℕ)) → Distinct (x ∷ ks) → All (λ k. x ≡ k → ⊥) ks
 distinct_head x ks a = All-from_get_or (λ k. x ≡ k → ⊥) ks [] (λ i l e. let q = a 0 (suc i) (omega arith) (omega arith) e in omega arith)
 
-distinct_cons : (x : List ℕ) (ks : List (List ℕ)) → AllByRecursion (λ k. x ≡ k → ⊥) ks → Distinct ks → Distinct (x ∷ ks)
+distinct_cons : (x : List ℕ) (ks : List (List ℕ)) → All (λ k. x ≡ k → ⊥) ks → Distinct ks → Distinct (x ∷ ks)
 distinct_cons x ks a d zero zero l m e = omega arith
 distinct_cons x ks a d zero (suc j) l m e = absurd (All-get_or (λ k. x ≡ k → ⊥) ks j [] (omega arith) a e)
 distinct_cons x ks a d (suc i) zero l m e = absurd (All-get_or (λ k. x ≡ k → ⊥) ks i [] (omega arith) a (sym e))
@@ -47,16 +47,15 @@ module _ {X : Type 0} where
 
   two_kept : (p : X → Bool) (R : X → X → Type 0) (xs : List X) → EachTwo R xs → EachTwo R (filter p xs)
   two_kept p R [] a = tt
-  two_kept p R (x ∷ xs) a = cond_both (p x) (x ∷ filter p xs) (filter p xs) (EachTwo R) (λ e. (all_kept_by p (R x) xs a.0, two_kept p R xs a.1)) (λ e. two_kept p R xs a.1)
+  two_kept p R (x ∷ xs) a = cond_both (p x) (x ∷ filter p xs) (filter p xs) (EachTwo R) (λ e. (All-filter p (R x) xs a.0, two_kept p R xs a.1)) (λ e. two_kept p R xs a.1)
 
   -- what R says of each two of which P holds, S says
-  two_weaker : (P : X → Type 0) (R S : X → X → Type 0) → ((x y : X) → P x → P y → R x y → S x y) → (xs : List X) → AllByRecursion P xs → EachTwo R xs → EachTwo S xs
+  two_weaker : (P : X → Type 0) (R S : X → X → Type 0) → ((x y : X) → P x → P y → R x y → S x y) → (xs : List X) → All P xs → EachTwo R xs → EachTwo S xs
   two_weaker P R S w [] a b = tt
-  two_weaker P R S w (x ∷ xs) a b = (all_two xs a.1 b.0, two_weaker P R S w xs a.1 b.1)
-    where
-      all_two : (ys : List X) → AllByRecursion P ys → AllByRecursion (R x) ys → AllByRecursion (S x) ys
-      all_two [] c d = tt
-      all_two (y ∷ ys) c d = (w x y a.0 c.0 d.0, all_two ys c.1 d.1)
+  two_weaker P R S w (x ∷ xs) a b = (
+    λ k d l. w x (get_or xs k d) (All-head P x xs a) (All-tail P x xs a k d l) (b.0 k d l),
+    two_weaker P R S w xs (All-tail P x xs a) b.1,
+  )
 
 -- a sound table has no name twice
 pub names_once : NamesOnce

@@ -3,7 +3,7 @@ use Rattle.std.proofs.Common.{◌≡◌, ℕ, ◌<◌, true, false, ◌⊎◌, L
 use Rattle.std.specs.List.{slice_get}
 use Rattle.std.proofs.lemmas.List.{length_push}
 use Rattle.std.proofs.lemmas.Bool.{both_ways, cases_order, or_cases, or_left, or_right}
-use Rattle.symbols.specs.declared.fault.Spot.{Spot}
+use Rattle.symbols.specs.Faults.{Spot}
 use Rattle.symbols.specs.declared.table.SymbolTable.{SymbolTable}
 use Rattle.symbols.specs.declared.table.SymbolTableType.{SymbolTableType}
 use Rattle.store.specs.Enterings.{kind_by}

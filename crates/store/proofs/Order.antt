@@ -2,7 +2,7 @@
 use Rattle.std.proofs.Common.{◌≡◌, ℕ, List, [], ◌∷◌, ◌++◌, map, get_or, Some, sym, refl, ap, ◌∙◌}
 use lib.Seq.{map-set_same}
 use Rattle.std.proofs.lemmas.List.{map_push}
-use Rattle.symbols.specs.declared.fault.Spot.{Spot}
+use Rattle.symbols.specs.Faults.{Spot}
 use Rattle.symbols.specs.declared.usage.SymbolUsage.{SymbolUsage}
 use Rattle.store.specs.Enterings.{again, enter, entered, key_of, no_symbol, stands_at, stands_by}
 use Rattle.store.specs.Grown.{TextsKept}

@@ -3,12 +3,11 @@ use Rattle.std.proofs.Common.{◌≡◌, ℕ, Bool, true, false, not, ◌&&◌, 
 use Rattle.std.specs.List.{slice_get}
 use Rattle.symbols.specs.declared.fault.Fault.{Fault}
 use Rattle.symbols.specs.declared.fault.ScanReason.TheVariants as reason
-use Rattle.symbols.specs.declared.fault.Spot.{Spot}
 use Rattle.store.specs.declared.memory.Memory.{Memory}
 use Rattle.symbols.specs.declared.usage.SymbolUsage.{SymbolUsage}
 use Rattle.symbols.specs.declared.usage.SymbolUsage.TheVariants as role
 use Rattle.store.specs.Enterings.{enter, kind_by, kind_of}
-use Rattle.symbols.specs.Faults.{scan_fault}
+use Rattle.symbols.specs.Faults.{Spot, scan_fault}
 use Rattle.store.specs.Held.{Held, Room, done, refused, and_then}
 use Rattle.store.specs.Memory.{Keeps, Leaves, Does, held, room_of}
 use Rattle.store.specs.Outward.{around_comprehension, way_out, is_class, is_empty, enter_each, enter_host, enter_target}

@@ -4,11 +4,10 @@ use Rattle.std.proofs.lemmas.Bool.{and_cases, and_from, and_left, and_parts, and
 use Rattle.symbols.specs.declared.fault.Fault.{Fault}
 use Rattle.symbols.specs.declared.fault.ScanReason.{ScanReason}
 use Rattle.symbols.specs.declared.fault.ScanReason.TheVariants as reason
-use Rattle.symbols.specs.declared.fault.Spot.{Spot}
 use Rattle.symbols.specs.declared.table.SymbolTableType.{SymbolTableType}
 use Rattle.symbols.specs.declared.usage.SymbolUsage.{SymbolUsage}
 use Rattle.store.specs.Enterings.{enter, enter_at, enter_first, enter_new, first_objection, kind_of, stands_at, stands_by}
-use Rattle.symbols.specs.Faults.{fault_number, scan_number}
+use Rattle.symbols.specs.Faults.{Spot, fault_number, scan_number}
 use Rattle.store.specs.Held.{Held, Room}
 use Rattle.store.specs.Rooms.{RefusedForSymbol, RefusedForText, RefusedTable, SymbolLacks, TextFits, TextLacks}
 use Rattle.store.specs.Tables.{open_by, open_table}

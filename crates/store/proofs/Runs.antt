@@ -1,15 +1,14 @@
 -- What each entering of a name keeps to, all ways of entering that are made of it keep to.
 use Rattle.std.proofs.Common.{◌≡◌, ℕ, cond, not, ◌&&◌, ◌||◌, List, [], ◌∷◌, codes, ap, subst}
-use Rattle.std.specs.List.{AllByRecursion}
+use Rattle.std.specs.List.{All}
 use Rattle.std.specs.Str.{bytes_eq}
-use Rattle.std.proofs.ByRecursion.{All-weaker}
+use Rattle.std.proofs.lemmas.List.Elements.{All-head, All-tail, All-weaker}
 use Rattle.std.proofs.lemmas.Bool.{cond_both}
 use Rattle.symbols.specs.declared.fault.ScanReason.TheVariants as reason
-use Rattle.symbols.specs.declared.fault.Spot.{Spot}
 use Rattle.symbols.specs.declared.usage.SymbolUsage.{SymbolUsage}
 use Rattle.symbols.specs.declared.usage.SymbolUsage.TheVariants as role
 use Rattle.store.specs.Enterings.{enter, is_module, kind_of}
-use Rattle.symbols.specs.Faults.{scan_fault}
+use Rattle.symbols.specs.Faults.{Spot, scan_fault}
 use Rattle.store.specs.Held.{Held, Room, Outcome, done, refused, and_then}
 use Rattle.store.specs.Mangling.{mangled}
 use Rattle.store.specs.Names.{Entering, enter_all}
@@ -27,19 +26,19 @@ module _ (Ok : Held → ℕ → Type 0) (R : Held → Held → Type 0)
   two h (done k) next a b = on h k (held_in (next k)) a (b k a)
   two h (refused k f) next a b = a
 
-  run_list : (room : Room) (h : Held) (es : List Entering) → AllByRecursion (λ e. Ok h e.table) es → R h (held_in (enter_all room h es))
+  run_list : (room : Room) (h : Held) (es : List Entering) → All (λ e. Ok h e.table) es → R h (held_in (enter_all room h es))
   run_list room h [] a = none h
   run_list room h (e ∷ es) a =
-      two h (enter room h e.table e.role e.text e.spot) (λ k. enter_all room k es) (step room h e.table e.role e.text e.spot a.0)
-      (λ k r. run_list room k es (All-weaker (λ x. Ok h x.table) (λ x. Ok k x.table) (λ x. still h k x.table r) es a.1))
+      two h (enter room h e.table e.role e.text e.spot) (λ k. enter_all room k es) (step room h e.table e.role e.text e.spot (All-head (λ x. Ok h x.table) e es a))
+      (λ k r. run_list room k es (All-weaker (λ x. Ok h x.table) (λ x. Ok k x.table) (λ x. still h k x.table r) es (All-tail (λ x. Ok h x.table) e es a)))
 
-  run_each : (room : Room) (h : Held) (ts : List ℕ) (role : SymbolUsage) (text : List ℕ) (spot : Spot) → AllByRecursion (Ok h) ts → R h (held_in (enter_each room h ts role text spot))
+  run_each : (room : Room) (h : Held) (ts : List ℕ) (role : SymbolUsage) (text : List ℕ) (spot : Spot) → All (Ok h) ts → R h (held_in (enter_each room h ts role text spot))
   run_each room h [] role text spot a = none h
   run_each room h (t ∷ ts) role text spot a =
-      two h (enter room h t role text spot) (λ k. enter_each room k ts role text spot) (step room h t role text spot a.0)
-      (λ k r. run_each room k ts role text spot (All-weaker (Ok h) (Ok k) (λ x. still h k x r) ts a.1))
+      two h (enter room h t role text spot) (λ k. enter_each room k ts role text spot) (step room h t role text spot (All-head (Ok h) t ts a))
+      (λ k r. run_each room k ts role text spot (All-weaker (Ok h) (Ok k) (λ x. still h k x r) ts (All-tail (Ok h) t ts a)))
 
-  run_target : (room : Room) (h : Held) (t : ℕ) (text : List ℕ) (spot : Spot) → AllByRecursion (Ok h) (way_out h t).through → Ok h (way_out h t).host → R h (held_in (enter_target room h t text spot))
+  run_target : (room : Room) (h : Held) (t : ℕ) (text : List ℕ) (spot : Spot) → All (Ok h) (way_out h t).through → Ok h (way_out h t).host → R h (held_in (enter_target room h t text spot))
   unfolding enter_target
   run_target room h t text spot a b =
       two h (enter_each room h (way_out h t).through role.AssignedNamedExprInComprehension text spot) (λ k. enter_host room h k (way_out h t) text spot)

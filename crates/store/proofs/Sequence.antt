@@ -1,6 +1,7 @@
 -- The names of a table after a list of enterings.
 use Rattle.std.proofs.Common.{◌≡◌, ℕ, ◌<◌, Bool, true, false, cond, eqb, List, [], ◌∷◌, map, length, filter, sym, refl, ap, ◌∙◌, subst}
-use Rattle.std.specs.List.{AllByRecursion}
+use Rattle.std.specs.List.{All}
+use Rattle.std.proofs.lemmas.List.Elements.{All-head, All-tail}
 use Rattle.store.specs.Enterings.{enter}
 use Rattle.store.specs.Held.{Held, Outcome, done, refused, and_then}
 use Rattle.store.specs.Laws.{NamesInOrder}
@@ -29,9 +30,9 @@ names_in_order room h [] s a k q u = ap (λ x. names_in x u) (sym (one_done h k 
 names_in_order room h (e ∷ es) s a k q u =
     let w = both_done (enter room h e.table e.role e.text e.spot) (λ l. enter_all room l es) k q in
     let l = w.0 in
-    let sound = from_accepted InTable (λ x y. Sound x → Sound y) sound_stays room h e.table e.role e.text e.spot a.0 l w.1 s in
+    let sound = from_accepted InTable (λ x y. Sound x → Sound y) sound_stays room h e.table e.role e.text e.spot (All-head (λ x. x.table < length h.tables) e es a) l w.1 s in
     let tables = from_accepted Anywhere (λ x y. y.tables ≡ x.tables) tables_stay room h e.table e.role e.text e.spot tt l w.1 in
-    let rest : AllByRecursion (λ x. x.table < length l.tables) es = subst (λ ts. AllByRecursion (λ x. x.table < length ts) es) (sym tables) a.1 in
+    let rest : All (λ x. x.table < length l.tables) es = subst (λ ts. All (λ x. x.table < length ts) es) (sym tables) (All-tail (λ x. x.table < length h.tables) e es a) in
     names_in_order room l es sound rest k w.2 u
     ∙ ap (λ ns. append_new ns (texts_for u es)) (names_after_lem room h u e.table e.role e.text e.spot s l w.1)
     ∙ append_next (eqb e.table u) (names_in h u) e (filter (λ x. eqb x.table u) es)

@@ -1,11 +1,11 @@
 -- What is sound stays sound when a name is entered.
 use Rattle.std.proofs.Common.{◌≡◌, ℕ, ◌<◌, ◌≤◌, List, [], ◌∷◌, map, length, get_or, Some, None, sym, refl, ap, ◌∙◌, subst, inl, inr, arith}
-use Rattle.std.specs.List.{slice_get, AllByRecursion}
-use Rattle.std.proofs.ByRecursion.{All-get_or, All-push, All-set, All-weaker}
+use Rattle.std.specs.List.{slice_get, All}
+use Rattle.std.proofs.lemmas.List.Elements.{All-get_or, All-push, All-set, All-weaker}
 use Rattle.std.proofs.lemmas.List.{get_or-map, length-map}
 use Rattle.ordered.specs.Keys.{Absent, Distinct}
 use Rattle.ordered.proofs.Enters.{distinct_push}
-use Rattle.symbols.specs.declared.fault.Spot.{Spot}
+use Rattle.symbols.specs.Faults.{Spot}
 use Rattle.symbols.specs.declared.symbol.Symbol.{Symbol}
 use Rattle.symbols.specs.declared.table.SymbolTable.{SymbolTable}
 use Rattle.symbols.specs.declared.usage.SymbolUsage.{SymbolUsage}
@@ -26,10 +26,10 @@ use Rattle.store.proofs.TextsStay.{Interning, interning, longer_length}
 abbrev pub PlacedIn : ℕ → ℕ → Symbol → Type 0
 PlacedIn n m s = (s.table < n) × (s.name < m)
 
-pub placed_more : (n n' m m' : ℕ) (ss : List Symbol) → n ≤ n' → m ≤ m' → AllByRecursion (PlacedIn n m) ss → AllByRecursion (PlacedIn n' m') ss
+pub placed_more : (n n' m m' : ℕ) (ss : List Symbol) → n ≤ n' → m ≤ m' → All (PlacedIn n m) ss → All (PlacedIn n' m') ss
 placed_more n n' m m' ss a b = All-weaker (PlacedIn n m) (PlacedIn n' m') (λ s p. (omega (arith, p.0), omega (arith, p.1))) ss
 
-pub named_more : (m m' : ℕ) (ts : List SymbolTable) → m ≤ m' → AllByRecursion (λ x. x.name < m) ts → AllByRecursion (λ x. x.name < m') ts
+pub named_more : (m m' : ℕ) (ts : List SymbolTable) → m ≤ m' → All (λ x. x.name < m) ts → All (λ x. x.name < m') ts
 named_more m m' ts a = All-weaker (λ x. x.name < m) (λ x. x.name < m') (λ x l. omega arith) ts
 
 -- the number of an interned text is that of a text, and there are no fewer texts than before
@@ -82,18 +82,18 @@ sound_first_time room h t role text spot m w b s =
       apart = g.apart s.apart;
       placed = All-push P h.symbols (entered role t m.number spot) (placed_more (length h.tables) (length m.held.tables) (length h.texts) (length m.held.texts) h.symbols (omega arith) more s.placed) first;
       once = subst Distinct (sym (keys_first_time h t role spot m)) (distinct_push (map key_of h.symbols) (t ∷ m.number ∷ []) s.once (key_absent h text m g t s w.new));
-      named = subst (AllByRecursion (λ x. x.name < length m.held.texts)) (sym e) (named_more (length h.texts) (length m.held.texts) h.tables more s.named);
+      named = subst (All (λ x. x.name < length m.held.texts)) (sym e) (named_more (length h.texts) (length m.held.texts) h.tables more s.named);
       outwards = subst (λ ts. (u p : ℕ) → parent_by (slice_get ts u) ≡ Some p → p < u) (sym e) s.outwards;
     }
 
 pub nothing_is_sound : NothingIsSound
 nothing_is_sound =
     record {
-      inside = tt;
+      inside = λ k d l. absurd (omega arith);
       apart = λ i j l m e. absurd (omega arith);
-      placed = tt;
+      placed = λ k d l. absurd (omega arith);
       once = λ i j l m e. absurd (omega arith);
-      named = tt;
+      named = λ k d l. absurd (omega arith);
       outwards = λ t p e. not_some p (sym e);
     }
 

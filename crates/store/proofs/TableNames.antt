@@ -1,13 +1,13 @@
 -- The names of a table are in the order of their first entering.
 use Rattle.std.proofs.Common.{◌≡◌, ℕ, ◌<◌, Bool, true, false, cond, eqb, List, [], ◌∷◌, ◌++◌, map, length, get_or, Some, None, filter, Option, sym, refl, ap, ◌∙◌, subst, ap₂, arith}
 use mathlib.Core.List.{map-map}
-use Rattle.std.specs.List.{AllByRecursion}
+use Rattle.std.specs.List.{All}
 use Rattle.std.proofs.lemmas.List.Elements.{filter-append}
-use Rattle.std.proofs.ByRecursion.{All-from_get_or, All-get_or, all_kept_by, All-map, All-weaker}
+use Rattle.std.proofs.lemmas.List.Elements.{All-from_get_or, All-get_or, All-filter, All-map, All-weaker}
 use Rattle.std.proofs.lemmas.List.{append-nil, get_or-map, length-map, map-append}
 use Rattle.std.proofs.lemmas.Bool.{cond_both, cond-false, cond-true, eq-eqb, eqb-true}
 use Rattle.ordered.specs.Keys.{Absent}
-use Rattle.symbols.specs.declared.fault.Spot.{Spot}
+use Rattle.symbols.specs.Faults.{Spot}
 use Rattle.symbols.specs.declared.usage.SymbolUsage.{SymbolUsage}
 use Rattle.store.specs.Enterings.{enter, key_of, no_symbol, stands_at, stands_by, symbol_of}
 use Rattle.store.specs.Grown.{Longer}
@@ -32,14 +32,14 @@ names_by_keys h u =
     sym (map-map (λ k. get_or (spellings h) (get_or k 1 0) []) key_of (symbols_in h u)) ∙ ap (map (λ k. get_or (spellings h) (get_or k 1 0) [])) (sym (kept_by_map (λ k. eqb (get_or k 0 0) u) key_of h.symbols))
 
 -- more texts leave the names as they were
-pub names_longer : (texts more : List (List ℕ)) (u : ℕ) (ks : List (List ℕ)) → Longer texts more → AllByRecursion (λ k. get_or k 1 0 < length texts) ks → names_of more u ks ≡ names_of texts u ks
+pub names_longer : (texts more : List (List ℕ)) (u : ℕ) (ks : List (List ℕ)) → Longer texts more → All (λ k. get_or k 1 0 < length texts) ks → names_of more u ks ≡ names_of texts u ks
 names_longer texts more u ks p a =
     map_same (λ k. get_or more (get_or k 1 0) []) (λ k. get_or texts (get_or k 1 0) []) (filter (λ k. eqb (get_or k 0 0) u) ks)
-    (all_kept_by (λ k. eqb (get_or k 0 0) u) (λ k. get_or more (get_or k 1 0) [] ≡ get_or texts (get_or k 1 0) []) ks
+    (All-filter (λ k. eqb (get_or k 0 0) u) (λ k. get_or more (get_or k 1 0) [] ≡ get_or texts (get_or k 1 0) []) ks
     (All-weaker (λ k. get_or k 1 0 < length texts) (λ k. get_or more (get_or k 1 0) [] ≡ get_or texts (get_or k 1 0) []) (λ k l. longer-get_or texts more (get_or k 1 0) [] p l) ks a))
 
 -- the keys of what is sound have texts
-pub texts_below : (h : Held) → Sound h → AllByRecursion (λ k. get_or k 1 0 < length (spellings h)) (map key_of h.symbols)
+pub texts_below : (h : Held) → Sound h → All (λ k. get_or k 1 0 < length (spellings h)) (map key_of h.symbols)
 texts_below h s =
     All-map (λ k. get_or k 1 0 < length (spellings h)) key_of h.symbols
     (All-weaker (PlacedIn (length h.tables) (length h.texts)) (λ z. z.name < length (spellings h)) (λ z q. omega (arith, q.1, length-map h.texts (spelled h.bytes))) h.symbols s.placed)

@@ -1,18 +1,17 @@
 -- What opening a table leaves, and how it can be refused.
 use Rattle.std.proofs.Common.{◌≡◌, ℕ, ◌<◌, ◌≤◌, ltb, List, [], ◌∷◌, ◌++◌, map, length, Some, None, Option, sym, refl, ap, ◌∙◌, subst, inl, inr, arith}
-use Rattle.std.specs.List.{slice_get, AllByRecursion}
-use Rattle.std.proofs.ByRecursion.{All-push}
+use Rattle.std.specs.List.{slice_get, All}
+use Rattle.std.proofs.lemmas.List.Elements.{All-push}
 use Rattle.std.proofs.lemmas.List.{get_or_append_left, get_or_push, length_push}
 use Rattle.std.proofs.lemmas.Option.{slice_get-get_or, slice_get_past}
 use Rattle.std.proofs.lemmas.Bool.{cases_order, cond_both, ltb-false, ltb-true}
 use Rattle.ordered.specs.Keys.{Distinct}
 use Rattle.symbols.specs.declared.fault.Fault.{Fault}
 use Rattle.symbols.specs.declared.fault.MemoryReason.TheVariants as lack
-use Rattle.symbols.specs.declared.fault.Spot.{Spot}
 use Rattle.symbols.specs.declared.table.SymbolTable.{SymbolTable}
 use Rattle.symbols.specs.declared.table.SymbolTableType.{SymbolTableType}
 use Rattle.store.specs.Enterings.{key_of}
-use Rattle.symbols.specs.Faults.{memory_fault}
+use Rattle.symbols.specs.Faults.{Spot, memory_fault}
 use Rattle.store.specs.Held.{Held, Room, Outcome, done, refused}
 use Rattle.store.specs.Laws.{SoundStaysOpening}
 use Rattle.store.specs.Opened.{Opened}
@@ -102,12 +101,12 @@ open_sound room h around kind name spot below s =
     record {
       inside = g.kept.inside;
       apart = g.apart s.apart;
-      placed = subst (AllByRecursion (λ z. (z.table < length (m.held.tables ++ x ∷ [])) × (z.name < length m.held.texts))) (sym q.1)
+      placed = subst (All (λ z. (z.table < length (m.held.tables ++ x ∷ [])) × (z.name < length m.held.texts))) (sym q.1)
           (placed_more (length h.tables) (length (m.held.tables ++ x ∷ [])) (length h.texts) (length m.held.texts) h.symbols (omega arith) more s.placed);
       once = subst (λ ss. Distinct (map key_of ss)) (sym q.1) s.once;
       named =
           All-push (λ z. z.name < length m.held.texts) m.held.tables x
-          (subst (AllByRecursion (λ z. z.name < length m.held.texts)) (sym q.0) (named_more (length h.texts) (length m.held.texts) h.tables more s.named))
+          (subst (All (λ z. z.name < length m.held.texts)) (sym q.0) (named_more (length h.texts) (length m.held.texts) h.tables more s.named))
           (number_below h name m g);
       outwards = outwards_push m.held.tables x (subst (λ ts. (u p : ℕ) → parent_by (slice_get ts u) ≡ Some p → p < u) (sym q.0) s.outwards) (λ p i. omega (arith, below p i));
     })

@@ -1,7 +1,7 @@
 -- The way of a named expression goes outwards, so that its tables are there if the first is.
 use Rattle.std.proofs.Common.{◌≡◌, ℕ, zero, suc, ◌<◌, ◌≤◌, ltb, List, length, Some, None, Option, sym, refl, arith}
-use Rattle.std.specs.List.{slice_get, AllByRecursion}
-use Rattle.std.proofs.ByRecursion.{All-weaker}
+use Rattle.std.specs.List.{slice_get, All}
+use Rattle.std.proofs.lemmas.List.Elements.{All-cons, All-nil, All-weaker}
 use Rattle.std.proofs.lemmas.Bool.{cond_both, ltb-true}
 use Rattle.symbols.specs.declared.table.SymbolTable.{SymbolTable}
 use Rattle.store.specs.Laws.{SoundStaysAtTarget}
@@ -11,7 +11,7 @@ use Rattle.store.proofs.SoundStays.{sound_stays}
 
 -- each table of a way is at most t
 pub record UpTo (t : ℕ) (way : Way) : Type 0 where
-  pub through : AllByRecursion (λ u. u ≤ t) way.through
+  pub through : All (λ u. u ≤ t) way.through
   pub host : way.host ≤ t
 
 -- no table around, or one below
@@ -33,14 +33,14 @@ around_below ts t = go (slice_get ts t)
     go (Some x) = cond_both (is_comprehension x.typ) (below_by t x.parent) None (Below t) (λ _. below_by_lem t x.parent) (λ _. none_below t)
 
 further_up_to : (t : ℕ) (o : Option ℕ) (next : ℕ → Way) → Below t o → ((p : ℕ) → UpTo p (next p)) → UpTo t (further o t next)
-further_up_to t None next b w = record { through = tt; host = omega arith }
+further_up_to t None next b w = record { through = All-nil (λ u. u ≤ t); host = omega arith }
 further_up_to t (Some p) next b w =
     let l : p < t = b p refl in
     let r = w p in
-    record { through = (omega arith, All-weaker (λ u. u ≤ p) (λ u. u ≤ t) (λ u q. omega arith) (next p).through r.through); host = omega (arith, r.host) }
+    record { through = All-cons (λ u. u ≤ t) t (next p).through (omega arith) (All-weaker (λ u. u ≤ p) (λ u. u ≤ t) (λ u q. omega arith) (next p).through r.through); host = omega (arith, r.host) }
 
 way_up_to : (ts : List SymbolTable) (n t : ℕ) → UpTo t (way_from ts n t)
-way_up_to ts zero t = record { through = tt; host = omega arith }
+way_up_to ts zero t = record { through = All-nil (λ u. u ≤ t); host = omega arith }
 way_up_to ts (suc n) t = further_up_to t (around_comprehension ts t) (way_from ts n) (around_below ts t) (λ p. way_up_to ts n p)
 
 -- what is sound stays sound when the target of a named expression is entered from a table that there is

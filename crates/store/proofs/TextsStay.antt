@@ -1,7 +1,7 @@
 -- Texts: one more is added after those before, which keep their spelling and their numbers.
 use Rattle.std.proofs.Common.{◌≡◌, ℕ, ◌+◌, ◌<◌, ◌≤◌, ◌⊎◌, List, [], ◌∷◌, ◌++◌, map, length, get_or, take, drop, Some, None, sym, refl, ap, ◌∙◌, subst, ap₂, inl, inr, arith}
-use Rattle.std.specs.List.{AllByRecursion}
-use Rattle.std.proofs.ByRecursion.{All-push, All-weaker}
+use Rattle.std.specs.List.{All}
+use Rattle.std.proofs.lemmas.List.Elements.{All-head, All-push, All-tail, All-weaker}
 use Rattle.std.proofs.lemmas.List.{append_assoc, append-nil, drop-append-le, drop_at, get_or_append_left, get_or_push, length-append, length-drop, length-map, length_push, map_push, take_all, take-append-le}
 use Rattle.ordered.specs.Keys.{Absent, Distinct, First}
 use Rattle.ordered.proofs.Enters.{distinct_push}
@@ -47,9 +47,9 @@ spelled_more bytes more x l =
     let n = length-drop x.start bytes in
     ap (take x.len) (drop-append-le x.start bytes more (omega arith)) ∙ take-append-le x.len (drop x.start bytes) more (omega arith)
 
-spellings_more : (bytes more : List ℕ) (xs : List Text) → AllByRecursion (λ x. x.start + x.len ≤ length bytes) xs → map (spelled (bytes ++ more)) xs ≡ map (spelled bytes) xs
+spellings_more : (bytes more : List ℕ) (xs : List Text) → All (λ x. x.start + x.len ≤ length bytes) xs → map (spelled (bytes ++ more)) xs ≡ map (spelled bytes) xs
 spellings_more bytes more [] a = refl
-spellings_more bytes more (x ∷ xs) a = ap₂ (λ y ys. y ∷ ys) (spelled_more bytes more x a.0) (spellings_more bytes more xs a.1)
+spellings_more bytes more (x ∷ xs) a = ap₂ (λ y ys. y ∷ ys) (spelled_more bytes more x (All-head (λ y. y.start + y.len ≤ length bytes) x xs a)) (spellings_more bytes more xs (All-tail (λ y. y.start + y.len ≤ length bytes) x xs a))
 
 -- the text that was added is spelled by the bytes that were added
 spelled_last : (bytes text : List ℕ) → spelled (bytes ++ text) (record { start = length bytes; len = length text }) ≡ text

@@ -3,7 +3,6 @@ use Rattle.std.specs.Prelude.{ℕ, Bool, true, false, cond, ◌&&◌, ◌||◌, 
 use Rattle.std.specs.List.{slice_get}
 use Rattle.std.specs.Option.{option_or}
 use Rattle.std.specs.Bool.{then_some}
-use Rattle.symbols.specs.declared.fault.Spot.{Spot}
 use Rattle.symbols.specs.declared.fault.ScanReason.{ScanReason}
 use Rattle.symbols.specs.declared.fault.ScanReason.TheVariants as reason
 use Rattle.symbols.specs.declared.fault.MemoryReason.TheVariants as lack
@@ -13,7 +12,7 @@ use Rattle.symbols.specs.declared.table.SymbolTable.{SymbolTable}
 use Rattle.symbols.specs.declared.table.SymbolTableType.{SymbolTableType}
 use Rattle.symbols.specs.declared.table.SymbolTableType.TheVariants as kind
 use Rattle.symbols.specs.declared.usage.SymbolUsage.{SymbolUsage}
-use Rattle.symbols.specs.Faults.{scan_fault, memory_fault}
+use Rattle.symbols.specs.Faults.{Spot, scan_fault, memory_fault}
 use Rattle.symbols.specs.Flags.{has, referenced, assigned, parameter, annotated, nonlocal, iter}
 use Rattle.store.specs.Held.{Held, Room, Outcome, done, refused}
 use Rattle.store.specs.Texts.{Interned, place_of, number_of, interned}
@@ -60,8 +59,7 @@ again role s = record {
   scope = scope_by role s.scope;
   flags = record { bits = bit_or s.flags.bits (masks_of role) };
   global = s.global || declares_global role;
-  node = s.node;
-  row = s.row;
+  spot = s.spot;
 }
 
 -- a symbol that is new: the text x in table t
@@ -72,8 +70,7 @@ entered role t x spot = record {
   scope = scope_by role scope.Unknown;
   flags = record { bits = masks_of role };
   global = declares_global role;
-  node = spot.node;
-  row = spot.row;
+  spot = spot;
 }
 
 -- the kind of a table; a number that is no table's counts as the module's
@@ -102,7 +99,7 @@ stands_at h t text = stands_by h t (number_of h text)
 
 -- no symbol: what is read past the last
 abbrev pub no_symbol : Symbol
-no_symbol = record { table = 0; name = 0; scope = scope.Unknown; flags = record { bits = 0 }; global = false; node = 0; row = 0 }
+no_symbol = record { table = 0; name = 0; scope = scope.Unknown; flags = record { bits = 0 }; global = false; spot = record { node = 0; row = 0 } }
 
 abbrev pub with_symbols : Held → List Symbol → Held
 with_symbols h ss = record { tables = h.tables; symbols = ss; texts = h.texts; bytes = h.bytes }

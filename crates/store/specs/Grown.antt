@@ -13,8 +13,7 @@ use Rattle.symbols.specs.Usage.{declares_global, masks_of}
 pub record Grown (s s' : Symbol) : Type 0 where
   pub table : s'.table ≡ s.table
   pub name : s'.name ≡ s.name
-  pub node : s'.node ≡ s.node
-  pub row : s'.row ≡ s.row
+  pub spot : s'.spot ≡ s.spot
   pub masks : has s'.flags.bits s.flags.bits ≡ true
   pub global : s.global ≡ true → s'.global ≡ true
 

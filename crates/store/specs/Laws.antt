@@ -1,9 +1,9 @@
 -- The laws of entering names, of whatever is held: the main statements of this crate.
 use Rattle.std.specs.Prelude.{◌≡◌, ℕ, ◌<◌, List, length, Some, Option}
-use Rattle.std.specs.List.{AllByRecursion}
+use Rattle.std.specs.List.{All}
 use Rattle.ordered.specs.Keys.{Distinct}
 use Rattle.symbols.specs.declared.fault.Fault.{Fault}
-use Rattle.symbols.specs.declared.fault.Spot.{Spot}
+use Rattle.symbols.specs.Faults.{Spot}
 use Rattle.symbols.specs.declared.table.SymbolTableType.{SymbolTableType}
 use Rattle.symbols.specs.declared.usage.SymbolUsage.{SymbolUsage}
 use Rattle.store.specs.Enterings.{enter}
@@ -71,7 +71,7 @@ SoundStaysAtTarget =
 -- however names are entered, no name comes to be declared both global and nonlocal in one table, nor to be both the target
 -- of a comprehension's `for` and assigned
 abbrev pub ConsistentStays : Type 0
-ConsistentStays = Throughout Anywhere (λ h k. AllByRecursion Consistent h.symbols → AllByRecursion Consistent k.symbols)
+ConsistentStays = Throughout Anywhere (λ h k. All Consistent h.symbols → All Consistent k.symbols)
 
 -- a text that was entered is held
 abbrev pub TextIsHeld : Type 0
@@ -96,7 +96,7 @@ OrderOfFirstEntering =
 abbrev pub NamesInOrder : Type 0
 NamesInOrder =
     (room : Room) (h : Held) (es : List Entering) →
-    Sound h → AllByRecursion (λ e. e.table < length h.tables) es →
+    Sound h → All (λ e. e.table < length h.tables) es →
     (k : Held) → enter_all room h es ≡ done k → (u : ℕ) → names_in k u ≡ append_new (names_in h u) (texts_for u es)
 
 -- no table has a name twice

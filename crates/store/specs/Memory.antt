@@ -1,7 +1,8 @@
 -- Lent memory as what it holds, and what a call may do to it.
-use Rattle.std.specs.Prelude.{◌≡◌, ℕ, ◌+◌, ◌<◌, ◌≤◌, Bool, true, false, List, ◌++◌, map, length, Some, None, Ok, Err, Option, Result}
+use Rattle.std.specs.Prelude.{◌≡◌, ℕ, ◌+◌, ◌<◌, ◌≤◌, List, ◌++◌, map, length, Some, None, Ok, Err, Option, Result}
 use Rattle.ordered.specs.declared.table.Ordered.{Ordered}
-use Rattle.ordered.specs.Records.{listed, room}
+use Rattle.ordered.specs.declared.table.NoRoom.{NoRoom}
+use Rattle.ordered.specs.Records.{listed, no_room, room}
 use Rattle.symbols.specs.declared.fault.Fault.{Fault}
 use Rattle.store.specs.declared.memory.Memory.{Memory}
 use Rattle.store.specs.declared.memory.Counts.{Counts}
@@ -74,11 +75,11 @@ abbrev pub Does : Memory → Outcome → Result (Unit {0}) Fault → Memory → 
 Does m o r m' = Gives {A = Unit {0}} tt m o r m'
 
 -- the number of an interned text, or nothing where it does not fit
-abbrev pub Numbers : Held → Option Interned → Option ℕ → Held → Type 0
-Numbers h (Some i) r k = (r ≡ Some i.number) × (k ≡ i.held)
-Numbers h None r k = (r ≡ None) × (k ≡ h)
+abbrev pub Numbers : Held → Option Interned → Result ℕ NoRoom → Held → Type 0
+Numbers h (Some i) r k = (r ≡ Ok i.number) × (k ≡ i.held)
+Numbers h None r k = (r ≡ Err no_room) × (k ≡ h)
 
 -- bs' is bs after a text was to be appended
-abbrev pub Appends : Ordered ℕ → Ordered ℕ → List ℕ → Bool → Type 0
-Appends t t' text true = (length (listed t) + length text ≤ room t) × (listed t' ≡ listed t ++ text) × SamePlaces t t'
-Appends t t' text false = (room t < length (listed t) + length text) × (listed t' ≡ listed t) × SamePlaces t t'
+abbrev pub Appends : Ordered ℕ → Ordered ℕ → List ℕ → Result (Unit {0}) NoRoom → Type 0
+Appends t t' text (Ok _) = (length (listed t) + length text ≤ room t) × (listed t' ≡ listed t ++ text) × SamePlaces t t'
+Appends t t' text (Err _) = (room t < length (listed t) + length text) × (listed t' ≡ listed t) × SamePlaces t t'

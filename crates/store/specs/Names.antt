@@ -1,6 +1,6 @@
 -- The names of a table, in the order of their first entering.
 use Rattle.std.specs.Prelude.{◌≡◌, ℕ, List, [], ◌∷◌, ◌++◌, map, Some, None, filter, Option, nat_eq, slice_index_or}
-use Rattle.symbols.specs.declared.fault.Spot.{Spot}
+use Rattle.symbols.specs.Faults.{Spot}
 use Rattle.symbols.specs.declared.symbol.Symbol.{Symbol}
 use Rattle.symbols.specs.declared.usage.SymbolUsage.{SymbolUsage}
 use Rattle.store.specs.Enterings.{enter, key_of, stands_at}

@@ -1,6 +1,6 @@
 -- What opening a table leaves.
 use Rattle.std.specs.Prelude.{◌≡◌, ℕ, ◌<◌, List, [], ◌∷◌, ◌++◌, length, Some, Option}
-use Rattle.symbols.specs.declared.fault.Spot.{Spot}
+use Rattle.symbols.specs.Faults.{Spot}
 use Rattle.symbols.specs.declared.table.SymbolTableType.{SymbolTableType}
 use Rattle.store.specs.Grown.{TextsKept}
 use Rattle.store.specs.Held.{Held}

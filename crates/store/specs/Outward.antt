@@ -2,7 +2,6 @@
 use Rattle.std.specs.Prelude.{ℕ, zero, suc, Bool, true, false, cond, not, ◌&&◌, ◌||◌, List, [], ◌∷◌, Some, None, codes, Option, nat_lt}
 use Rattle.std.specs.List.{slice_get}
 use Rattle.std.specs.Str.{bytes_eq}
-use Rattle.symbols.specs.declared.fault.Spot.{Spot}
 use Rattle.symbols.specs.declared.fault.ScanReason.TheVariants as reason
 use Rattle.symbols.specs.declared.table.SymbolTable.{SymbolTable}
 use Rattle.symbols.specs.declared.table.SymbolTableType.{SymbolTableType}
@@ -10,7 +9,7 @@ use Rattle.symbols.specs.declared.table.SymbolTableType.TheVariants as kind
 use Rattle.symbols.specs.declared.usage.SymbolUsage.{SymbolUsage}
 use Rattle.symbols.specs.declared.usage.SymbolUsage.TheVariants as role
 use Rattle.store.specs.Enterings.{enter, is_module, kind_of}
-use Rattle.symbols.specs.Faults.{scan_fault}
+use Rattle.symbols.specs.Faults.{Spot, scan_fault}
 use Rattle.store.specs.Held.{Held, Room, Outcome, done, refused, and_then}
 use Rattle.store.specs.Mangling.{mangled}
 use Rattle.store.specs.Tables.{is_function}

@@ -2,11 +2,10 @@
 use Rattle.std.specs.Prelude.{◌≡◌, ℕ, ◌+◌, ◌<◌, ◌≤◌, ◌⊎◌, List, length, None, Option}
 use Rattle.symbols.specs.declared.fault.Fault.{Fault}
 use Rattle.symbols.specs.declared.fault.MemoryReason.TheVariants as lack
-use Rattle.symbols.specs.declared.fault.Spot.{Spot}
 use Rattle.symbols.specs.declared.table.SymbolTableType.{SymbolTableType}
 use Rattle.symbols.specs.declared.usage.SymbolUsage.{SymbolUsage}
 use Rattle.store.specs.Enterings.{enter, first_objection, kind_of, stands_at}
-use Rattle.symbols.specs.Faults.{fault_number, memory_fault}
+use Rattle.symbols.specs.Faults.{Spot, fault_number, memory_fault}
 use Rattle.store.specs.Held.{Held, Room, refused}
 use Rattle.store.specs.Tables.{open_table}
 use Rattle.store.specs.Texts.{number_of}

@@ -1,12 +1,11 @@
 -- What it does to open a table.
 use Rattle.std.specs.Prelude.{ℕ, Bool, true, false, cond, ◌||◌, List, [], ◌∷◌, ◌++◌, length, Some, None, Option, nat_lt}
 use Rattle.std.specs.List.{slice_get}
-use Rattle.symbols.specs.declared.fault.Spot.{Spot}
 use Rattle.symbols.specs.declared.fault.MemoryReason.TheVariants as lack
 use Rattle.symbols.specs.declared.table.SymbolTable.{SymbolTable}
 use Rattle.symbols.specs.declared.table.SymbolTableType.{SymbolTableType}
 use Rattle.symbols.specs.declared.table.SymbolTableType.TheVariants as kind
-use Rattle.symbols.specs.Faults.{memory_fault}
+use Rattle.symbols.specs.Faults.{Spot, memory_fault}
 use Rattle.store.specs.Held.{Held, Room, Outcome, done, refused}
 use Rattle.store.specs.Texts.{Interned, interned}
 

@@ -35,6 +35,10 @@ with_text h text = record {
   bytes = h.bytes ++ text;
 }
 
+-- the first n texts and the first b bytes
+abbrev pub with_first : Held → ℕ → ℕ → Held
+with_first h n b = record { tables = h.tables; symbols = h.symbols; texts = take n h.texts; bytes = take b h.bytes }
+
 -- what is held once a text is, and its number
 pub record Interned : Type 0 where
   pub held : Held

@@ -1,7 +1,7 @@
 -- What holds from before to after, in whichever way names are entered and whatever comes of it.
 use Rattle.std.specs.Prelude.{◌≡◌, ℕ, ◌<◌, List, length}
-use Rattle.std.specs.List.{AllByRecursion}
-use Rattle.symbols.specs.declared.fault.Spot.{Spot}
+use Rattle.std.specs.List.{All}
+use Rattle.symbols.specs.Faults.{Spot}
 use Rattle.symbols.specs.declared.usage.SymbolUsage.{SymbolUsage}
 use Rattle.store.specs.Enterings.{enter}
 use Rattle.store.specs.Held.{Held, Room, Outcome, done, refused}
@@ -30,11 +30,11 @@ pub record Throughout (Ok : Held → ℕ → Type 0) (R : Held → Held → Type
   -- one name in one table
   pub one : (room : Room) (h : Held) (t : ℕ) (role : SymbolUsage) (text : List ℕ) (spot : Spot) → Ok h t → R h (held_in (enter room h t role text spot))
   -- a list of enterings
-  pub list : (room : Room) (h : Held) (es : List Entering) → AllByRecursion (λ e. Ok h e.table) es → R h (held_in (enter_all room h es))
+  pub list : (room : Room) (h : Held) (es : List Entering) → All (λ e. Ok h e.table) es → R h (held_in (enter_all room h es))
   -- one name in several tables
-  pub each : (room : Room) (h : Held) (ts : List ℕ) (role : SymbolUsage) (text : List ℕ) (spot : Spot) → AllByRecursion (Ok h) ts → R h (held_in (enter_each room h ts role text spot))
+  pub each : (room : Room) (h : Held) (ts : List ℕ) (role : SymbolUsage) (text : List ℕ) (spot : Spot) → All (Ok h) ts → R h (held_in (enter_each room h ts role text spot))
   -- the target of a named expression
-  pub target : (room : Room) (h : Held) (t : ℕ) (text : List ℕ) (spot : Spot) → AllByRecursion (Ok h) (way_out h t).through → Ok h (way_out h t).host → R h (held_in (enter_target room h t text spot))
+  pub target : (room : Room) (h : Held) (t : ℕ) (text : List ℕ) (spot : Spot) → All (Ok h) (way_out h t).through → Ok h (way_out h t).host → R h (held_in (enter_target room h t text spot))
   -- what an import enters
   pub imported : (room : Room) (h : Held) (t : ℕ) (class name : List ℕ) (spot : Spot) → Ok h t → R h (held_in (enter_import room h t class name spot))
   -- a name that is read

@@ -1,29 +1,30 @@
 // Where the scan stands: the table that is open, and the class name in force.
 ghost use Rattle.std.specs.Prelude.{◌≡◌, length, is_ok, if◌then◌else◌, Some};
+ghost use Rattle.store.specs.Mangling.{class_of, mangled, text_of};
 ghost use Rattle.store.specs.Memory.{held, room_of, Gives, Does};
 ghost use Rattle.store.specs.Tables.{nests_in, open_table};
 
-use crate::memory::{Counts, Memory};
-use crate::register::lack;
-use symbols::fault::{Fault, MemoryReason, Spot};
+use crate::mangle::{Mangled, mangle_name};
+use crate::memory::Memory;
+use symbols::fault::{Fault, MemoryFault, MemoryReason, Spot};
 use symbols::table::{SymbolTable, SymbolTableType};
 
-// `table` is the number of the open table. `class` is the number that the caller knows the name of the class in force
-// by, and nothing outside of classes; a function in a class has the name of the class in force too.
+// Where the scan stands: the open table, and the name of the class in force, if there is one. A function in a class has the
+// name of that class in force too.
 #[derive(Clone, Copy, Drop)]
-pub struct Cursor {
+pub struct Cursor<'c> {
     pub table: usize,
-    pub class: Option<usize>,
+    pub class: Option<&'c [u8]>,
 }
 
 // A guard on the cursor: at its end, on every way out, the table and the class name that it was made with are put back.
-pub struct Within<'g> {
-    pub cursor: &'g mut Cursor,
+pub struct Within<'g, 'c> {
+    pub cursor: &'g mut Cursor<'c>,
     pub table: usize,
-    pub class: Option<usize>,
+    pub class: Option<&'c [u8]>,
 }
 
-impl Drop for Within<'_> {
+impl<'g, 'c> Drop for Within<'g, 'c> {
     fn drop(self)
         ensures { self.exit.0.now ≡ record { table = self.entry.table; class = self.entry.class } }
     {
@@ -37,6 +38,15 @@ impl Drop for Within<'_> {
     }
 }
 
+impl<'c> Cursor<'c> {
+    // `name` as it is entered where the cursor stands.
+    pub(crate) fn mangle(&self, name: &'c [u8]) -> Mangled<'c>
+        ensures { text_of result ≡ mangled (class_of self.now) name.now }
+    {
+        mangle_name(self.class.unwrap_or_default(), name)
+    }
+}
+
 impl Memory<'_> {
     // Whether a table in this one is nested; none is around the module.
     fn nests(&self, around: Option<usize>) -> bool
@@ -45,14 +55,13 @@ impl Memory<'_> {
         let Some(table) = around else {
             return false;
         };
-        match self.tables.get(table) {
-            Some(found) => found.is_nested || matches!(found.typ, SymbolTableType::Function),
-            None => false,
-        }
+        self.tables.get(table).is_some_and(|found| found.is_nested
+            || found.typ == SymbolTableType::Function)
     }
 
     // Adds a table, and answers its number. Memory is asked for its name first, then for its record; where there is none
     // for the record, the name goes too.
+    #[tactic(auto, unfolding(crate::specs::Tables::open_table))]
     pub fn add_table(
         &mut self,
         around: Option<usize>,
@@ -63,9 +72,13 @@ impl Memory<'_> {
         ensures { Gives (length (held self.old).tables) self.old (open_table (room_of self.old) (held self.old) around typ name.now spot) result self.new }
     {
         let is_nested = self.nests(around);
-        let Counts { texts, bytes, .. } = self.counts();
-        let Some(text) = self.intern(b"", name) else {
-            return Err(lack(MemoryReason::Texts, spot));
+        let counts = self.counts();
+        let Ok(text) = self.intern(&Mangled::from(name)) else {
+            return Err(MemoryFault {
+                reason: MemoryReason::Texts,
+                spot,
+            }
+            .into());
         };
         match self.tables.push(SymbolTable {
             parent: around,
@@ -76,15 +89,18 @@ impl Memory<'_> {
         }) {
             Ok(number) => Ok(number),
             Err(_) => {
-                self.texts.truncate(texts);
-                self.bytes.truncate(bytes);
-                Err(lack(MemoryReason::Tables, spot))
+                self.take_back(&counts);
+                Err(MemoryFault {
+                    reason: MemoryReason::Tables,
+                    spot,
+                }
+                .into())
             }
         }
     }
 }
 
-impl Cursor {
+impl Cursor<'_> {
     // Opens a table in the open one; the cursor then stands in it. A refusal leaves the cursor where it is.
     pub fn enter_scope(
         &mut self,

@@ -1,19 +1,71 @@
 // Private names: in a class, a private name is entered under the class's name.
 //
-// The name so mangled is never built: it is sought and appended in its two parts, the class's and its own.
-ghost use Rattle.std.specs.Prelude.{◌≡◌};
-ghost use Rattle.store.specs.Mangling.{begins_with_two, ends_in_two, dotted, is_private, stripped, under, class_part, mangled};
+// The text of a name so mangled is never built: it is sought and appended in its two parts, the class's and its own.
+ghost use Rattle.std.specs.Prelude.{◌≡◌, ◌↔◌, [], IsTrue};
+ghost use Rattle.store.specs.Mangling.{begins_with_two, ends_in_two, dotted, is_private, stripped, class_part, mangled, text_of};
+ghost use Rattle.store.specs.Memory.{Appends};
 
-// The part of the class's name that goes before `name`: where `name` is private, the class's name without its leading
-// underscores, else nothing.
-pub fn mangle_name<'c>(class: &'c [u8], name: &[u8]) -> &'c [u8]
-    ensures part { result.now ≡ class_part class.now name.now }
-    ensures mangled { under result.now name.now ≡ mangled class.now name.now }
+use ordered::{NoRoom, Ordered};
+
+// A name as it is entered: an underscore, the prefix and the name, or the name alone where the prefix is empty.
+#[derive(Clone, Copy, Drop)]
+pub struct Mangled<'a> {
+    pub prefix: &'a [u8],
+    pub name: &'a [u8],
+}
+
+// The name alone.
+impl<'a> From<&'a [u8]> for Mangled<'a> {
+    ghost from_gives = { λ name mangled. (mangled.prefix.now ≡ []) × (mangled.name ≡ name) };
+
+    fn from(name: &'a [u8]) -> Mangled<'a> {
+        Mangled { prefix: b"", name }
+    }
+}
+
+// `name` as it is entered in a class: where it is private, under the class's name without its leading underscores.
+pub fn mangle_name<'a>(class: &'a [u8], name: &'a [u8]) -> Mangled<'a>
+    ensures prefix { result.prefix.now ≡ class_part class.now name.now }
+    ensures name { result.name.now ≡ name.now }
+    ensures text { text_of result ≡ mangled class.now name.now }
 {
-    if is_private(name) {
-        strip(class)
-    } else {
-        &class[0..0]
+    let prefix = if is_private(name) { strip(class) } else { b"" };
+    Mangled { prefix, name }
+}
+
+impl Mangled<'_> {
+    // Whether `text` is the name as it is entered.
+    pub(crate) fn is_spelled(&self, text: &[u8]) -> bool
+        ensures { IsTrue result ↔ (text.now ≡ text_of self.now) }
+    {
+        if self.prefix.is_empty() {
+            return text == self.name;
+        }
+        let [b'_', rest @ ..] = text else {
+            return false;
+        };
+        match rest.strip_prefix(self.prefix) {
+            Some(last) => last == self.name,
+            None => false,
+        }
+    }
+
+    // Appends the name as it is entered; or nothing, where it does not fit.
+    pub(crate) fn append_to(&self, bytes: &mut Ordered<'_, u8>) -> Result<(), NoRoom>
+        ensures { Appends bytes.old bytes.new (text_of self.now) result }
+    {
+        if self.prefix.is_empty() {
+            return bytes.extend(self.name);
+        }
+        let start = bytes.count();
+        if bytes.extend(b"_").is_ok()
+            && bytes.extend(self.prefix).is_ok()
+            && bytes.extend(self.name).is_ok()
+        {
+            return Ok(());
+        }
+        bytes.truncate(start);
+        Err(NoRoom)
     }
 }
 

@@ -3,7 +3,8 @@ ghost use Rattle.std.specs.Prelude.{◌≡◌};
 ghost use Rattle.store.specs.Enterings.{too_late, misdeclared, objection};
 ghost use Rattle.symbols.specs.Faults.{judged};
 
-use symbols::fault::{ScanFault, ScanReason, Spot};
+use crate::entry::Entry;
+use symbols::fault::{ScanFault, ScanReason};
 use symbols::flags::SymbolFlags;
 use symbols::symbol::Symbol;
 use symbols::usage::SymbolUsage;
@@ -34,29 +35,25 @@ fn misdeclaration(role: SymbolUsage, symbol: Symbol) -> Option<ScanReason>
         SymbolUsage::Nonlocal => symbol.global,
         _ => return None,
     };
-    if let Some(reason) = too_late(symbol.flags) {
-        return Some(reason);
-    }
-    if other_way {
-        Some(ScanReason::GlobalNonlocal)
-    } else {
-        None
-    }
+    too_late(symbol.flags).or(other_way.then_some(ScanReason::GlobalNonlocal))
 }
 
-// Tests a role against what the table has done with the name.
-pub(crate) fn check_role(role: SymbolUsage, symbol: Symbol, spot: Spot) -> Result<(), ScanFault>
-    ensures { result ≡ judged (objection role symbol) spot }
-{
-    if let Some(reason) = misdeclaration(role, symbol) {
-        return Err(ScanFault { reason, spot });
+impl Entry<'_> {
+    // Tests the role against what the table has done with the name.
+    pub(crate) fn check_again(&self, symbol: Symbol) -> Result<(), ScanFault>
+        ensures { result ≡ judged (objection self.now.role symbol) self.now.spot }
+    {
+        let spot = self.spot;
+        if let Some(reason) = misdeclaration(self.role, symbol) {
+            return Err(ScanFault { reason, spot });
+        }
+        let flags = symbol.flags | self.role.flags();
+        if flags.contains(SymbolFlags::ITER) && flags.contains(SymbolFlags::ASSIGNED) {
+            return Err(ScanFault {
+                reason: ScanReason::IterAssigned,
+                spot,
+            });
+        }
+        Ok(())
     }
-    let flags = symbol.flags.union(role.flags());
-    if flags.contains(SymbolFlags::ITER) && flags.contains(SymbolFlags::ASSIGNED) {
-        return Err(ScanFault {
-            reason: ScanReason::IterAssigned,
-            spot,
-        });
-    }
-    Ok(())
 }

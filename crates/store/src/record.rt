@@ -14,11 +14,11 @@ pub struct Mark {
     pub global: bool,
 }
 
-impl Mark {
-    // What entering can change in this symbol.
-    pub(crate) fn of(symbol: Symbol) -> Mark
-        ensures { result ≡ record { scope = symbol.scope; flags = symbol.flags; global = symbol.global } }
-    {
+// What entering can change in this symbol.
+impl From<Symbol> for Mark {
+    ghost from_gives = { λ symbol mark. mark ≡ record { scope = symbol.scope; flags = symbol.flags; global = symbol.global } };
+
+    fn from(symbol: Symbol) -> Mark {
         Mark {
             scope: symbol.scope,
             flags: symbol.flags,
@@ -34,13 +34,19 @@ pub struct SymbolRecord {
     pub mark: Mark,
 }
 
-// A symbol is sought by its table and its text.
-impl Keyed for SymbolRecord {
+// What a symbol is known by: its table, and the number of its name's text.
+#[derive(Clone, Copy, Drop)]
+pub struct SymbolKey {
+    pub table: usize,
+    pub text: usize,
+}
+
+impl Keyed<SymbolKey> for SymbolRecord {
     ghost key = { λ x _. x.symbol.table ∷ x.symbol.name ∷ [] };
 
-    ghost asked = { λ first second _. first ∷ second ∷ [] };
+    ghost asked = { λ key. key.table ∷ key.text ∷ [] };
 
-    fn matches(&self, _texts: &[u8], first: usize, second: usize, _bytes: &[u8]) -> bool {
-        self.symbol.table == first && self.symbol.name == second
+    fn matches(&self, _texts: &[u8], key: &SymbolKey) -> bool {
+        self.symbol.table == key.table && self.symbol.name == key.text
     }
 }

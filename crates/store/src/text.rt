@@ -1,7 +1,10 @@
 // A text: a name as it is entered, held once.
-ghost use Rattle.std.specs.Prelude.{◌≡◌, take, drop, Decides};
-ghost use Rattle.store.specs.Mangling.{under};
+ghost use Rattle.std.specs.Prelude.{◌≡◌};
+ghost use Rattle.store.specs.Mangling.{text_of};
 ghost use Rattle.store.specs.Texts.{spelled};
+
+use crate::mangle::Mangled;
+use ordered::Keyed;
 
 // A text is `len` of the text bytes, from `start` on.
 #[derive(Clone, Copy, Drop)]
@@ -11,38 +14,22 @@ pub struct Text {
 }
 
 impl Text {
-    // Whether the text is a name, which is given in two parts: the name of the class that it is under, and the name itself.
-    pub(crate) fn spells(&self, bytes: &[u8], prefix: &[u8], name: &[u8]) -> bool
-        ensures { Decides result (spelled bytes.now self.now ≡ under prefix.now name.now) }
+    // The bytes of the text, or as many of them as there are.
+    fn spelling<'b>(&self, bytes: &'b [u8]) -> &'b [u8]
+        ensures { result.now ≡ spelled bytes.now self.now }
     {
-        is_under(part(bytes, self.start, self.len), prefix, name)
+        let rest = bytes.get(self.start..).unwrap_or_default();
+        rest.get(..self.len).unwrap_or(rest)
     }
 }
 
-// The `len` bytes from `start` on, or as many of them as there are.
-fn part(bytes: &[u8], start: usize, len: usize) -> &[u8]
-    ensures { result.now ≡ take len (drop start bytes.now) }
-{
-    if start > bytes.len() {
-        return &bytes[0..0];
-    }
-    let rest = &bytes[start..];
-    if len < rest.len() { &rest[..len] } else { rest }
-}
+// A text is sought by the name that it spells.
+impl Keyed<Mangled<'_>> for Text {
+    ghost key = { λ text bytes. spelled bytes text };
 
-// Whether `text` is `name` under `prefix`: an underscore, the prefix and the name, or the name alone where there is no
-// prefix.
-fn is_under(text: &[u8], prefix: &[u8], name: &[u8]) -> bool
-    ensures { Decides result (text.now ≡ under prefix.now name.now) }
-{
-    if prefix.is_empty() {
-        return text == name;
-    }
-    let [b'_', rest @ ..] = text else {
-        return false;
-    };
-    match rest.strip_prefix(prefix) {
-        Some(last) => last == name,
-        None => false,
+    ghost asked = { λ name. text_of name };
+
+    fn matches(&self, bytes: &[u8], name: &Mangled<'_>) -> bool {
+        name.is_spelled(self.spelling(bytes))
     }
 }

@@ -2,12 +2,12 @@
 use Rattle.std.specs.Prelude.{ℕ, Some, None, Ok, Err, Option, Result}
 use Rattle.treefile.specs.declared.fault.Layer.{Layer}
 use Rattle.treefile.specs.declared.fault.Layer.TheVariants as layer
-use Rattle.symbols.specs.declared.fault.Spot.{Spot}
+pub use Rattle.treefile.specs.declared.fault.Refusal.{Refusal}
+pub use Rattle.treefile.specs.declared.fault.Spot.{Spot}
 use Rattle.symbols.specs.declared.fault.ScanReason.{ScanReason}
 use Rattle.symbols.specs.declared.fault.ScanReason.TheVariants.{Unsupported, Parameter, Used, Annotated, Assigned, ModuleNonlocal, GlobalNonlocal, IterAssigned, NamedInIterable, NamedInClass, StarOutsideModule}
 use Rattle.symbols.specs.declared.fault.MemoryReason.{MemoryReason}
 use Rattle.symbols.specs.declared.fault.MemoryReason.TheVariants.{Tables, Symbols, Texts, Counts}
-use Rattle.symbols.specs.declared.fault.ScanFault.{ScanFault}
 use Rattle.symbols.specs.declared.fault.Fault.{Fault}
 use Rattle.symbols.specs.declared.fault.Fault.TheVariants.{Scan, Memory}
 
@@ -75,6 +75,6 @@ abbrev pub memory_fault : MemoryReason → Spot → Fault
 memory_fault reason spot = Memory (record { reason = reason; spot = spot })
 
 -- a test of the scan: passed, or refused at a spot
-abbrev pub judged : Option ScanReason → Spot → Result (Unit {0}) ScanFault
+abbrev pub judged : Option ScanReason → Spot → Result (Unit {0}) (Refusal ScanReason)
 judged (Some r) spot = Err (record { reason = r; spot = spot })
 judged None spot = Ok tt

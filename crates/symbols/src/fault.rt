@@ -3,69 +3,83 @@ ghost use Rattle.std.specs.Prelude.{◌≡◌};
 ghost use Rattle.symbols.specs.Faults.{scan_number, scan_layer, memory_number, memory_layer, fault_number, fault_layer, fault_spot};
 ghost use Rattle.symbols.specs.declared.fault.Fault.TheVariants.{Scan, Memory};
 
-use treefile::fault::Layer;
+pub use treefile::fault::Spot;
+use treefile::fault::{Layer, Reason, Refusal};
 
-// A node of the tree, and its row in the script.
-#[derive(Clone, Copy, Drop, PartialEq, Eq, Debug)]
-pub struct Spot {
-    pub node: u32,
-    pub row: u32,
-}
-
-// What is wrong with a script.
+// What is wrong with a script, by the number that a listing prints.
 #[derive(Clone, Copy, Drop, PartialEq, Eq, Debug)]
 pub enum ScanReason {
     // a statement that has no tables yet
-    Unsupported,
+    Unsupported = 10,
     // a name that is declared global or nonlocal, but was a parameter, used, annotated or assigned before
-    Parameter,
-    Used,
-    Annotated,
-    Assigned,
+    Parameter = 11,
+    Used = 12,
+    Annotated = 13,
+    Assigned = 14,
     // a nonlocal declaration of a new name in the module
-    ModuleNonlocal,
+    ModuleNonlocal = 15,
     // a name that is declared both global and nonlocal in one table
-    GlobalNonlocal,
+    GlobalNonlocal = 16,
     // the target of a `for` in a comprehension that is assigned there
-    IterAssigned,
+    IterAssigned = 17,
     // a named expression in the iterable of a comprehension
-    NamedInIterable,
+    NamedInIterable = 18,
     // a named expression in a comprehension whose host is a class
-    NamedInClass,
+    NamedInClass = 19,
     // an import of `*` outside the module
-    StarOutsideModule,
+    StarOutsideModule = 20,
 }
 
-// What is wrong with the memory.
+// What is wrong with the memory, by the number that a listing prints.
 #[derive(Clone, Copy, Drop, PartialEq, Eq, Debug)]
 pub enum MemoryReason {
     // no place for one more table, symbol or text
-    Tables,
-    Symbols,
-    Texts,
+    Tables = 22,
+    Symbols = 23,
+    Texts = 24,
     // what is there does not fit the counts
-    Counts,
+    Counts = 25,
 }
 
 // A reason of the scan, and the node and the row that it belongs to.
-#[derive(Clone, Copy, Drop, PartialEq, Eq, Debug)]
-pub struct ScanFault {
-    pub reason: ScanReason,
-    pub spot: Spot,
-}
+pub type ScanFault = Refusal<ScanReason>;
 
 // A reason of the memory, and the node and the row that it belongs to.
-#[derive(Clone, Copy, Drop, PartialEq, Eq, Debug)]
-pub struct MemoryFault {
-    pub reason: MemoryReason,
-    pub spot: Spot,
-}
+pub type MemoryFault = Refusal<MemoryReason>;
 
 // Why an entering is refused: by the script, or for want of memory.
 #[derive(Clone, Copy, Drop, PartialEq, Eq, Debug)]
 pub enum Fault {
     Scan(ScanFault),
     Memory(MemoryFault),
+}
+
+impl Reason for ScanReason {
+    ghost number_of = { scan_number };
+
+    ghost layer_of = { scan_layer };
+
+    fn number(self) -> u8 {
+        self as u8
+    }
+
+    fn layer(self) -> Layer {
+        Layer::Scan
+    }
+}
+
+impl Reason for MemoryReason {
+    ghost number_of = { memory_number };
+
+    ghost layer_of = { memory_layer };
+
+    fn number(self) -> u8 {
+        self as u8
+    }
+
+    fn layer(self) -> Layer {
+        Layer::Memory
+    }
 }
 
 impl From<ScanFault> for Fault {
@@ -84,62 +98,13 @@ impl From<MemoryFault> for Fault {
     }
 }
 
-impl ScanReason {
-    // The number that a listing prints.
-    pub fn number(self) -> u8
-        ensures { result ≡ scan_number self }
-    {
-        match self {
-            ScanReason::Unsupported => 10,
-            ScanReason::Parameter => 11,
-            ScanReason::Used => 12,
-            ScanReason::Annotated => 13,
-            ScanReason::Assigned => 14,
-            ScanReason::ModuleNonlocal => 15,
-            ScanReason::GlobalNonlocal => 16,
-            ScanReason::IterAssigned => 17,
-            ScanReason::NamedInIterable => 18,
-            ScanReason::NamedInClass => 19,
-            ScanReason::StarOutsideModule => 20,
-        }
-    }
-
-    // The layer that refuses.
-    pub fn layer(self) -> Layer
-        ensures { result ≡ scan_layer self }
-    {
-        Layer::Scan
-    }
-}
-
-impl MemoryReason {
-    // The number that a listing prints.
-    pub fn number(self) -> u8
-        ensures { result ≡ memory_number self }
-    {
-        match self {
-            MemoryReason::Tables => 22,
-            MemoryReason::Symbols => 23,
-            MemoryReason::Texts => 24,
-            MemoryReason::Counts => 25,
-        }
-    }
-
-    // The layer that refuses.
-    pub fn layer(self) -> Layer
-        ensures { result ≡ memory_layer self }
-    {
-        Layer::Memory
-    }
-}
-
 impl Fault {
     pub fn number(self) -> u8
         ensures { result ≡ fault_number self }
     {
         match self {
-            Fault::Scan(fault) => fault.reason.number(),
-            Fault::Memory(fault) => fault.reason.number(),
+            Fault::Scan(fault) => fault.number(),
+            Fault::Memory(fault) => fault.number(),
         }
     }
 
@@ -147,8 +112,8 @@ impl Fault {
         ensures { result ≡ fault_layer self }
     {
         match self {
-            Fault::Scan(fault) => fault.reason.layer(),
-            Fault::Memory(fault) => fault.reason.layer(),
+            Fault::Scan(fault) => fault.layer(),
+            Fault::Memory(fault) => fault.layer(),
         }
     }
 

@@ -2,6 +2,8 @@
 ghost use Rattle.std.specs.Prelude.{◌≡◌, bit_or};
 ghost use Rattle.symbols.specs.Flags.{has, shares};
 
+use std::ops::BitOr;
+
 // A set of masks.
 #[derive(Clone, Copy, Drop, PartialEq, Eq, Debug)]
 pub struct SymbolFlags {
@@ -32,8 +34,10 @@ impl SymbolFlags {
     // Free in a function of a class, from around the class.
     pub const FREE_CLASS: SymbolFlags = SymbolFlags { bits: 0x100 };
 
-    // What binds a name: assigned, parameter, imported, iter.
-    pub const BOUND: SymbolFlags = SymbolFlags { bits: 0x096 };
+    // What binds a name.
+    pub const BOUND: SymbolFlags = SymbolFlags {
+        bits: Self::ASSIGNED.bits | Self::PARAMETER.bits | Self::IMPORTED.bits | Self::ITER.bits,
+    };
 
     // Whether all masks of `other` are there.
     pub fn contains(self, other: SymbolFlags) -> bool
@@ -48,11 +52,15 @@ impl SymbolFlags {
     {
         self.bits & other.bits != 0
     }
+}
 
-    // The masks of both.
-    pub fn union(self, other: SymbolFlags) -> SymbolFlags
-        ensures { result ≡ record { bits = bit_or self.bits other.bits } }
-    {
+// The masks of both.
+impl BitOr for SymbolFlags {
+    type Output = SymbolFlags;
+
+    ghost bitor_gives = { λ m n both. both ≡ record { bits = bit_or m.bits n.bits } };
+
+    fn bitor(self, other: SymbolFlags) -> SymbolFlags {
         SymbolFlags {
             bits: self.bits | other.bits,
         }

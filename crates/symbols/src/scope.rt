@@ -1,6 +1,8 @@
 // Where a name belongs, as the interpreter reads it.
-ghost use Rattle.std.specs.Prelude.{◌≡◌};
+ghost use Rattle.std.specs.Prelude.{◌≡◌, Some};
 ghost use Rattle.symbols.specs.Words.{scope_word};
+
+use std::fmt;
 
 // The scope of a name in its table. A name that is not resolved yet is Unknown, GlobalExplicit where it is declared
 // global, or Free where it is declared nonlocal.
@@ -27,5 +29,13 @@ impl SymbolScope {
             SymbolScope::Free => "Free",
             SymbolScope::Cell => "Cell",
         }
+    }
+}
+
+impl fmt::Display for SymbolScope {
+    ghost output = { λ scope. Some (scope_word scope) };
+
+    fn fmt<W: fmt::Write>(&self, f: &mut fmt::Formatter<W>) -> fmt::Result {
+        f.write_str(self.word())
     }
 }

@@ -3,11 +3,12 @@ ghost use Rattle.std.specs.Prelude.{◌≡◌};
 ghost use Rattle.symbols.specs.Flags.{shares, bound};
 ghost use Rattle.symbols.specs.Usage.{global_scope, local_scope};
 
+use crate::fault::Spot;
 use crate::flags::SymbolFlags;
 use crate::scope::SymbolScope;
 
 // What is known of a name in a table. `table` is the table's number and `name` the number of the text; `global` says
-// that the table declares the name global; `node` and `row` belong to the node that entered it first.
+// that the table declares the name global; `spot` is that of the node that entered it first.
 #[derive(Clone, Copy, Drop, PartialEq, Eq, Debug)]
 pub struct Symbol {
     pub table: usize,
@@ -15,8 +16,7 @@ pub struct Symbol {
     pub scope: SymbolScope,
     pub flags: SymbolFlags,
     pub global: bool,
-    pub node: u32,
-    pub row: u32,
+    pub spot: Spot,
 }
 
 impl Symbol {

@@ -1,6 +1,8 @@
 // A table: one for the module, and one for each class, function, lambda and comprehension.
-ghost use Rattle.std.specs.Prelude.{◌≡◌};
+ghost use Rattle.std.specs.Prelude.{◌≡◌, Some};
 ghost use Rattle.symbols.specs.Words.{kind_word};
+
+use std::fmt;
 
 // What a table stands for.
 #[derive(Clone, Copy, Drop, PartialEq, Eq, Debug)]
@@ -22,6 +24,14 @@ impl SymbolTableType {
             SymbolTableType::Function => "Function",
             SymbolTableType::Comprehension => "Comprehension",
         }
+    }
+}
+
+impl fmt::Display for SymbolTableType {
+    ghost output = { λ kind. Some (kind_word kind) };
+
+    fn fmt<W: fmt::Write>(&self, f: &mut fmt::Formatter<W>) -> fmt::Result {
+        f.write_str(self.word())
     }
 }
 

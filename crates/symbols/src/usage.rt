@@ -6,7 +6,7 @@ use crate::flags::SymbolFlags;
 use crate::scope::SymbolScope;
 
 // The ten roles.
-#[derive(Clone, Copy, Drop)]
+#[derive(Clone, Copy, Drop, PartialEq, Eq, Debug)]
 pub enum SymbolUsage {
     Global,
     Nonlocal,
@@ -30,14 +30,12 @@ impl SymbolUsage {
             SymbolUsage::Nonlocal => SymbolFlags::NONLOCAL,
             SymbolUsage::Used => SymbolFlags::REFERENCED,
             SymbolUsage::Assigned => SymbolFlags::ASSIGNED,
-            SymbolUsage::Imported => SymbolFlags::ASSIGNED.union(SymbolFlags::IMPORTED),
-            SymbolUsage::AnnotationAssigned => SymbolFlags::ASSIGNED.union(SymbolFlags::ANNOTATED),
+            SymbolUsage::Imported => SymbolFlags::ASSIGNED | SymbolFlags::IMPORTED,
+            SymbolUsage::AnnotationAssigned => SymbolFlags::ASSIGNED | SymbolFlags::ANNOTATED,
             SymbolUsage::Parameter => SymbolFlags::PARAMETER,
-            SymbolUsage::AnnotationParameter => {
-                SymbolFlags::PARAMETER.union(SymbolFlags::ANNOTATED)
-            }
+            SymbolUsage::AnnotationParameter => SymbolFlags::PARAMETER | SymbolFlags::ANNOTATED,
             SymbolUsage::AssignedNamedExprInComprehension => {
-                SymbolFlags::ASSIGNED.union(SymbolFlags::ASSIGNED_IN_COMPREHENSION)
+                SymbolFlags::ASSIGNED | SymbolFlags::ASSIGNED_IN_COMPREHENSION
             }
             SymbolUsage::Iter => SymbolFlags::ITER,
         }
@@ -47,7 +45,7 @@ impl SymbolUsage {
     pub fn is_global(self) -> bool
         ensures { result ≡ declares_global self }
     {
-        matches!(self, SymbolUsage::Global)
+        self == SymbolUsage::Global
     }
 
     // The scope of a name after the role, where it was `old` before.

@@ -1,144 +1,117 @@
--- The loops over the children of a node: the elements of a List, and the slots of another node.
-use Rattle.std.proofs.Common.{◌≡◌, ℕ, ◌+◌, ◌<◌, ◌≤◌, Bool, true, false, ◌&&◌, eqb, List, [], ◌∷◌, length, get_or, drop, sym, refl, ap, ◌∙◌, ⊎_elim}
-use Rattle.std.proofs.lemmas.List.{get_or_past, drop_all, drop_more}
-use Rattle.std.proofs.lemmas.Bool.{and_left, and_parts, cases_eq, cases_lt, cond-false, eq-eqb, ne_eqb}
+-- The children of a node: those of a node that fits stand within it, behind it.
+use Rattle.std.proofs.Common.{◌≡◌, ℕ, zero, suc, ◌+◌, ◌-◌, ◌<◌, ◌≤◌, Bool, true, false, ◌&&◌, eqb, ltb, List, [], ◌∷◌, map, length, sym, refl, ap, ◌∙◌, subst, ⊎_elim, arith}
+use Rattle.std.proofs.lemmas.Bool.{cases_eq, cases_lt, cond-false, ne_eqb, and_left, lt-ltb, le-ltb}
 use Rattle.treefile.specs.declared.trailer.Trailer.{Trailer}
 use Rattle.treefile.specs.Records.{kind_at, size_at}
-use Rattle.treefile.specs.Slots.{columns, element}
-use Rattle.treefile.specs.Fits.{end_of, within, children, elements_fit, takes, slot_fits, slots_fit, fits}
+use Rattle.treefile.specs.Slots.{columns, letter}
+use Rattle.treefile.specs.declared.slot.Slot.{Slot}
+use Rattle.treefile.specs.Fits.{Place, place, child_places, end_of, within, kids, children, slot_fits, slots_fit, fits, second_absent, Stands, Tiled}
+use Rattle.treefile.proofs.Steps.{lies_within, kids_none, kids_more, kids_first, kids_end, no_place, next_place}
 use Rattle.treefile.proofs.Verdicts.{and_true}
-use Rattle.treefile.proofs.Steps.{rest, Walked, walked_none, walked_more, rest_none, rest_more, rest_all}
-
--- the elements of i before pos fit
-pub record Elements (bs : List ℕ) (t : Trailer) (letter i pos : ℕ) : Type 0 where
-  pub count : ℕ
-  pub walked : Walked bs t i count pos
-  pub same :
-      elements_fit bs t letter (end_of bs t i) (children bs t i)
-      ≡ elements_fit bs t letter (end_of bs t i) (rest bs t i count pos)
-
-module _ (bs : List ℕ) (t : Trailer) (letter i : ℕ) where
-  pub elements_none : 1 ≤ size_at bs t i → Elements bs t letter i (i + 1)
-  elements_none h =
-      record {
-        count = 0;
-        walked = walked_none bs t i h;
-        same = ap (elements_fit bs t letter (end_of bs t i)) (rest_none bs t i);
-      }
-
-  abbrev pub here : ℕ → Bool
-  here p = within bs t (end_of bs t i) p && element letter (kind_at bs t p)
-
-  module _ (pos : ℕ) (w : Elements bs t letter i pos) where
-    pub elements_all : end_of bs t i ≤ pos → elements_fit bs t letter (end_of bs t i) (children bs t i) ≡ true
-    elements_all h = w.same ∙ ap (elements_fit bs t letter (end_of bs t i)) (rest_all bs t i w.count pos h)
-
-    module _ (h : pos < end_of bs t i) where
-      elements_step : elements_fit bs t letter (end_of bs t i) (children bs t i) ≡ (here pos && elements_fit bs t letter (end_of bs t i) (rest bs t i (w.count + 1) (end_of bs t pos)))
-      elements_step = w.same ∙ ap (elements_fit bs t letter (end_of bs t i)) (rest_more bs t i w.count pos w.walked h)
-
-      pub elements_stop : here pos ≡ false → elements_fit bs t letter (end_of bs t i) (children bs t i) ≡ false
-      elements_stop e = elements_step ∙ and_left (here pos) _ e
-
-      pub elements_more : here pos ≡ true → Elements bs t letter i (end_of bs t pos)
-      elements_more e =
-          record {
-            count = w.count + 1;
-            walked = walked_more bs t i w.count pos w.walked h (and_parts (within bs t (end_of bs t i) pos) (element letter (kind_at bs t pos)) e).0;
-            same = elements_step ∙ and_true (here pos) _ e;
-          }
-
--- the children of i before pos fit the first c slots of a kind
-pub record Slotted (bs : List ℕ) (t : Trailer) (kind i c pos : ℕ) : Type 0 where
-  pub walked : Walked bs t i c pos
-  pub same :
-      slots_fit bs t (columns kind) (end_of bs t i) (children bs t i)
-      ≡ slots_fit bs t (drop c (columns kind)) (end_of bs t i) (rest bs t i c pos)
-
-module _ (bs : List ℕ) (t : Trailer) where
-  -- a letter that is none takes nothing
-  takes_nothing : (p : ℕ) → takes bs t 0 p ≡ false
-  takes_nothing p = refl
-
-  and_false : (x y : Bool) → y ≡ false → (x && y) ≡ false
-  and_false true y e = e
-  and_false false y e = refl
-
-  -- the child at a column, against the slots from that column on
-  slots_at : (letters : List ℕ) (c end p : ℕ) (ps : List ℕ) → slots_fit bs t (drop c letters) end (p ∷ ps) ≡ (slot_fits bs t (get_or letters c 0) end p && slots_fit bs t (drop (c + 1) letters) end ps)
-  slots_at letters c end p ps =
-      ⊎_elim
-      (λ (h : c < length letters). ap (λ (l : List ℕ). slots_fit bs t l end (p ∷ ps)) (drop_more letters c 0 h))
-      (λ (h : length letters ≤ c).
-      let n : slot_fits bs t (get_or letters c 0) end p ≡ false =
-      ap (λ (a : ℕ). slot_fits bs t a end p) (get_or_past letters c 0 h) ∙ and_false (within bs t end p) (takes bs t 0 p) (takes_nothing p) in
-      ap (λ (l : List ℕ). slots_fit bs t l end (p ∷ ps)) (drop_all c letters h)
-      ∙ sym (and_left (slot_fits bs t (get_or letters c 0) end p) (slots_fit bs t (drop (c + 1) letters) end ps) n))
-      (cases_lt c (length letters))
-
-module _ (bs : List ℕ) (t : Trailer) (kind i : ℕ) where
-  pub slotted_none : 1 ≤ size_at bs t i → Slotted bs t kind i 0 (i + 1)
-  slotted_none h =
-      record {
-        walked = walked_none bs t i h;
-        same = ap (slots_fit bs t (columns kind) (end_of bs t i)) (rest_none bs t i);
-      }
-
-  abbrev pub whole : Bool
-  whole = slots_fit bs t (columns kind) (end_of bs t i) (children bs t i)
-
-  module _ (c pos : ℕ) (w : Slotted bs t kind i c pos) where
-    -- no child is left: the slots fit if none is left either
-    pub slotted_all : end_of bs t i ≤ pos → length (columns kind) ≤ c → whole ≡ true
-    slotted_all h l =
-        w.same ∙ ap (slots_fit bs t (drop c (columns kind)) (end_of bs t i)) (rest_all bs t i c pos h)
-        ∙ ap (λ (a : List ℕ). slots_fit bs t a (end_of bs t i) []) (drop_all c (columns kind) l)
-
-    pub slotted_lack : end_of bs t i ≤ pos → c < length (columns kind) → whole ≡ false
-    slotted_lack h l =
-        w.same ∙ ap (slots_fit bs t (drop c (columns kind)) (end_of bs t i)) (rest_all bs t i c pos h)
-        ∙ ap (λ (a : List ℕ). slots_fit bs t a (end_of bs t i) []) (drop_more (columns kind) c 0 l)
-
-    module _ (h : pos < end_of bs t i) where
-      slots_step : whole ≡ (slot_fits bs t (get_or (columns kind) c 0) (end_of bs t i) pos && slots_fit bs t (drop (c + 1) (columns kind)) (end_of bs t i) (rest bs t i (c + 1) (end_of bs t pos)))
-      slots_step =
-          w.same ∙ ap (slots_fit bs t (drop c (columns kind)) (end_of bs t i)) (rest_more bs t i c pos w.walked h)
-          ∙ slots_at bs t (columns kind) c (end_of bs t i) pos (rest bs t i (c + 1) (end_of bs t pos))
-
-      pub slotted_stop : slot_fits bs t (get_or (columns kind) c 0) (end_of bs t i) pos ≡ false → whole ≡ false
-      slotted_stop e = slots_step ∙ and_left (slot_fits bs t (get_or (columns kind) c 0) (end_of bs t i) pos) _ e
-
-      pub slotted_more : slot_fits bs t (get_or (columns kind) c 0) (end_of bs t i) pos ≡ true → Slotted bs t kind i (c + 1) (end_of bs t pos)
-      slotted_more e =
-          record {
-            walked = walked_more bs t i c pos w.walked h (and_parts (within bs t (end_of bs t i) pos) (takes bs t (get_or (columns kind) c 0) pos) e).0;
-            same = slots_step ∙ and_true (slot_fits bs t (get_or (columns kind) c 0) (end_of bs t i) pos) _ e;
-          }
-
-    -- the column after the last child is empty exactly where no slot is left
-    pub slotted_end : (s : ℕ) → s ≡ get_or (columns kind) c 0 → (s ≡ 0 → length (columns kind) ≤ c) → end_of bs t i ≤ pos → eqb s 0 ≡ whole
-    slotted_end s e z h =
-        ⊎_elim (λ (p : s ≡ 0). eq-eqb s 0 p ∙ sym (slotted_all h (z p)))
-        (λ (n : s ≡ 0 → ⊥).
-        let l : c < length (columns kind) =
-        ⊎_elim (λ (a : c < length (columns kind)). a) (λ (b : length (columns kind) ≤ c). absurd (n (e ∙ get_or_past (columns kind) c 0 b)))
-        (cases_lt c (length (columns kind))) in
-        ne_eqb s 0 n ∙ sym (slotted_lack h l))
-        (cases_eq s 0)
+use Rattle.std.proofs.lemmas.Bool.Decides.{nat_tests}
+use Rattle.std.proofs.lemmas.Grind.{common_steps}
+use Rattle.treefile.proofs.Sorts.{Sorted, AllSorted, slots_sorted, elements_sorted}
 
 module _ (bs : List ℕ) (t : Trailer) (i : ℕ) where
-  -- a test at the end that the code computed
-  pub at_end : (P : ℕ → Bool) (z : ℕ) (b : Bool) → z ≡ size_at bs t i → b ≡ P (i + z) → P (end_of bs t i) ≡ b
-  at_end P z b ez eb = sym (eb ∙ ap (λ (n : ℕ). P (i + n)) ez)
-
-  -- and at the letter that it read
-  pub at_slot : (kind c pos s z : ℕ) (b : Bool) → z ≡ size_at bs t i → s ≡ get_or (columns kind) c 0 → b ≡ slot_fits bs t s (i + z) pos → slot_fits bs t (get_or (columns kind) c 0) (end_of bs t i) pos ≡ b
-  at_slot kind c pos s z b ez es eb =
-      at_end (λ (end : ℕ). slot_fits bs t (get_or (columns kind) c 0) end pos) z b ez
-      (eb ∙ ap (λ (a : ℕ). slot_fits bs t a (i + z) pos) es)
-
   -- a node that is no List is tested by its slots
-  pub fits_slots : (kind : ℕ) → kind ≡ kind_at bs t i → (kind ≡ 1 → ⊥) → fits bs t i ≡ slots_fit bs t (columns kind) (end_of bs t i) (children bs t i)
-  fits_slots kind e n =
-      cond-false (eqb (kind_at bs t i) 1) _ _ (ne_eqb (kind_at bs t i) 1 (λ (z : kind_at bs t i ≡ 1). n (e ∙ z)))
-      ∙ ap (λ (k : ℕ). slots_fit bs t (columns k) (end_of bs t i) (children bs t i)) (sym e)
+  pub fits_slots : (kind_at bs t i ≡ 1 → ⊥) → fits bs t i ≡ slots_fit bs t (columns (kind_at bs t i)) (end_of bs t i) (children bs t i)
+  fits_slots n = cond-false (eqb (kind_at bs t i) 1) _ _ (ne_eqb (kind_at bs t i) 1 n)
+
+  -- the children of a node that fits
+  pub children_sorted : fits bs t i ≡ true → (kind_at bs t i ≡ 1 → Tiled bs t i) → AllSorted bs t (end_of bs t i) (children bs t i)
+  children_sorted f l =
+      ⊎_elim (λ (k : kind_at bs t i ≡ 1). let d = l k in elements_sorted bs t d.letter (end_of bs t i) (children bs t i) d.elements)
+      (λ (n : kind_at bs t i ≡ 1 → ⊥).
+      slots_sorted bs t (columns (kind_at bs t i)) (end_of bs t i) (children bs t i) (sym (fits_slots n) ∙ f))
+      (cases_eq (kind_at bs t i) 1)
+
+  -- each of them stands among the records and is smaller than i, and a List among them has its elements within it
+  pub record Under (p : ℕ) : Type 0 where
+    pub stands : Stands bs t p
+    pub smaller : size_at bs t p < size_at bs t i
+    pub tiled : kind_at bs t p ≡ 1 → Tiled bs t p
+
+  abbrev pub AllUnder : List ℕ → Type 0
+  AllUnder [] = Unit {0}
+  AllUnder (p ∷ ps) = Under p × AllUnder ps
+
+  module _ (s : Stands bs t i) where
+    one_under : (p : ℕ) → i < p → Sorted bs t (end_of bs t i) p → Under p
+    one_under p h o =
+        let q = lies_within bs t (end_of bs t i) p o.inside in
+        record {
+          stands = record { framed = s.framed; some = q.0; within = omega (arith, q.1, s.within) };
+          smaller = omega (arith, q.1);
+          tiled = o.tiled;
+        }
+
+    all_under : (n pos : ℕ) → i < pos → AllSorted bs t (end_of bs t i) (kids bs t n pos (end_of bs t i)) → AllUnder (kids bs t n pos (end_of bs t i))
+    all_under zero pos h a = tt
+    all_under (suc n) pos h a =
+        ⊎_elim
+        (λ (l : pos < end_of bs t i).
+        let e = kids_more bs t n pos (end_of bs t i) l in
+        let b : Sorted bs t (end_of bs t i) pos × AllSorted bs t (end_of bs t i) (kids bs t n (end_of bs t pos) (end_of bs t i)) = subst (AllSorted bs t (end_of bs t i)) e a in
+        subst AllUnder (sym e) (one_under pos h b.0, all_under n (end_of bs t pos) (omega (arith, h)) b.1))
+        (λ (g : end_of bs t i ≤ pos). subst AllUnder (sym (kids_none bs t (suc n) pos (end_of bs t i) g)) tt)
+        (cases_lt pos (end_of bs t i))
+
+    pub children_under : fits bs t i ≡ true → (kind_at bs t i ≡ 1 → Tiled bs t i) → AllUnder (children bs t i)
+    children_under f l = all_under (size_at bs t i) (i + 1) (omega arith) (children_sorted f l)
+
+    -- the second child is Absent, where there are two; and where there are not, none is
+    pub second_of : (q r : ℕ) (ps : List ℕ) → children bs t i ≡ q ∷ r ∷ ps → second_absent bs t i ≡ (within bs t (end_of bs t i) q && eqb (kind_at bs t r) 0)
+    second_of q r ps e =
+        let a = kids_first bs t (size_at bs t i) (i + 1) (end_of bs t i) q (r ∷ ps) e in
+        let b = kids_first bs t a.fewer (end_of bs t (i + 1)) (end_of bs t i) r ps (sym a.rest) in
+        and_true (ltb (i + 1) (end_of bs t i)) _ (lt-ltb _ _ a.inside)
+        ∙ ap (λ (x : Bool). within bs t (end_of bs t i) (i + 1) && x) (and_true (ltb (end_of bs t (i + 1)) (end_of bs t i)) _ (lt-ltb _ _ b.inside))
+        ∙ ap (λ (n : ℕ). within bs t (end_of bs t i) n && eqb (kind_at bs t (end_of bs t (i + 1))) 0) (sym a.first)
+        ∙ ap (λ (n : ℕ). within bs t (end_of bs t i) q && eqb (kind_at bs t n) 0) (sym b.first)
+
+    pub second_of_one : (q : ℕ) → children bs t i ≡ q ∷ [] → second_absent bs t i ≡ false
+    second_of_one q e =
+        let a = kids_first bs t (size_at bs t i) (i + 1) (end_of bs t i) q [] e in
+        let n : a.fewer ≡ suc (a.fewer - 1) = omega (arith, a.some, a.inside) in
+        let g = kids_end bs t (a.fewer - 1) (end_of bs t (i + 1)) (end_of bs t i) (sym (ap (λ (m : ℕ). kids bs t m (end_of bs t (i + 1)) (end_of bs t i)) n) ∙ sym a.rest) in
+        let none : (ltb (end_of bs t (i + 1)) (end_of bs t i) && eqb (kind_at bs t (end_of bs t (i + 1))) 0) ≡ false = and_left _ _ (le-ltb _ _ g) in
+        ap (λ (x : Bool). ltb (i + 1) (end_of bs t i) && (within bs t (end_of bs t i) (i + 1) && x)) none
+        ∙ grind (arith, common_steps)
+
+-- a child against the slots that are left
+module _ (bs : List ℕ) (t : Trailer) (end : ℕ) where
+  pub slots_more : (s r : List Slot) (a : Slot) (ps : List ℕ) (p : ℕ) (rest : List ℕ) (w : Bool) → s ≡ a ∷ r → ps ≡ p ∷ rest → true ≡ slot_fits bs t (letter a) end p → slots_fit bs t (map letter s) end ps ≡ w → slots_fit bs t (map letter r) end rest ≡ w
+  slots_more s r a ps p rest w e f h k =
+      sym (and_true (slot_fits bs t (letter a) end p) (slots_fit bs t (map letter r) end rest) (sym h))
+      ∙ ap (λ (x : List Slot). slots_fit bs t (map letter x) end (p ∷ rest)) (sym e)
+      ∙ ap (slots_fit bs t (map letter s) end) (sym f) ∙ k
+
+  -- no child is left: the slots fit where none of them is left
+  pub slots_end : (s : List Slot) → eqb (length s) 0 ≡ slots_fit bs t (map letter s) end []
+  slots_end [] = refl
+  slots_end (a ∷ s) = grind (arith, nat_tests)
+
+-- the same of what two steps over the children give
+pub second_test : (bs : List ℕ) (t : Trailer) (i : ℕ) → Stands bs t i → (q r : Place) (qs rs : List Place) → q ∷ qs ≡ child_places bs t i → r ∷ rs ≡ qs → second_absent bs t i ≡ (within q.file q.trailer (end_of bs t i) q.node && eqb (kind_at r.file r.trailer r.node) 0)
+second_test bs t i s q r qs rs e f =
+    let n = next_place bs t (children bs t i) q qs e in
+    let m = next_place bs t n.rest r rs (f ∙ n.left) in
+    second_of bs t i s n.number m.number m.rest (n.split ∙ ap (λ (ps : List ℕ). n.number ∷ ps) m.split)
+    ∙ ap (λ (x : Place). within x.file x.trailer (end_of bs t i) x.node && eqb (kind_at bs t m.number) 0) (sym n.here)
+    ∙ ap (λ (x : Place). within q.file q.trailer (end_of bs t i) q.node && eqb (kind_at x.file x.trailer x.node) 0) (sym m.here)
+
+pub second_test_lacks : (bs : List ℕ) (t : Trailer) (i : ℕ) → Stands bs t i → (q : Place) (qs : List Place) → q ∷ qs ≡ child_places bs t i → qs ≡ [] → second_absent bs t i ≡ false
+second_test_lacks bs t i s q qs e f =
+    let n = next_place bs t (children bs t i) q qs e in
+    second_of_one bs t i s n.number (n.split ∙ ap (λ (ps : List ℕ). n.number ∷ ps) (no_place bs t n.rest (sym f ∙ n.left)))
+
+-- a child, as a node of its file
+pub record UnderAt (bs : List ℕ) (t : Trailer) (i : ℕ) (q : Place) : Type 0 where
+  pub stands : Stands q.file q.trailer q.node
+  pub smaller : size_at q.file q.trailer q.node < size_at bs t i
+  pub tiled : kind_at q.file q.trailer q.node ≡ 1 → Tiled q.file q.trailer q.node
+
+pub under_next : (bs : List ℕ) (t : Trailer) (i : ℕ) {ps : List ℕ} {p : ℕ} {rest : List ℕ} {q : Place} → ps ≡ p ∷ rest → q ≡ place bs t p → AllUnder bs t i ps → UnderAt bs t i q × AllUnder bs t i rest
+under_next bs t i {p = p} {rest = rest} split here all =
+    let both : Under bs t i p × AllUnder bs t i rest = subst (AllUnder bs t i) split all in
+    (subst (UnderAt bs t i) (sym here) (record { stands = both.0.stands; smaller = both.0.smaller; tiled = both.0.tiled }), both.1)

@@ -1,11 +1,9 @@
 pub mod Verdicts
 pub mod Firsts
 pub mod Table
-pub mod Dots
-pub mod NameBytes
 pub mod Steps
-pub mod Children
 pub mod Sorts
+pub mod Children
 pub mod Down
 pub mod Preorder
 pub mod Same
@@ -14,6 +12,7 @@ pub mod Agree
 pub mod Spelling
 pub mod Checked
 pub mod Sound
+pub mod Kept
 pub mod Laws
 pub mod Subtrees
 pub mod Shows

@@ -1,32 +1,34 @@
 -- What a recursion over a checked tree needs: the root passes, and so does each child of a node that passes, which is smaller.
-use Rattle.std.proofs.Common.{◌≡◌, ℕ, zero, suc, ◌+◌, ◌-◌, ◌<◌, ◌≤◌, true, cond, eqb, List, [], ◌∷◌, ◌++◌, Ok, Err, sym, ap, ◌∙◌, append_assoc, append-nil, arith}
+use Rattle.std.proofs.Common.{◌≡◌, ℕ, zero, suc, ◌+◌, ◌-◌, ◌<◌, true, cond, eqb, List, [], ◌∷◌, ◌++◌, Ok, Err, sym, ap, ◌∙◌, subst, append_assoc, arith}
 use Rattle.std.proofs.lemmas.Bool.{and_parts, eqb-true}
 use Rattle.treefile.specs.declared.stand.Stand.{Stand}
 use Rattle.treefile.specs.declared.trailer.Trailer.{Trailer}
 use Rattle.treefile.specs.First.{first_fault}
 use Rattle.treefile.specs.Records.{kind_at, size_at}
 use Rattle.treefile.specs.Slots.{X, B}
-use Rattle.treefile.specs.Fits.{end_of, children, takes, fits, slots_fault, depth_fault, node_check, Stands}
+use Rattle.treefile.specs.Fits.{Place, place, children, takes, fits, slots_fault, depth_fault, node_check, root_fits, Stands, Tiled}
 use Rattle.treefile.specs.Passing.{Passes}
+use Rattle.treefile.specs.Trailer.{Framed}
 use Rattle.treefile.specs.Preorder.{joined, preorder}
-use Rattle.treefile.proofs.Down.{Passed, passed_none, passed_more, child_stands, child_tiled, child_smaller}
+use Rattle.treefile.proofs.Children.{AllUnder, children_under}
 use Rattle.treefile.proofs.Sorts.{tiled_by}
 use Rattle.treefile.proofs.Sound.{Sound}
 use Rattle.treefile.proofs.Verdicts.{never, then_ok, cond_ok}
-use Rattle.treefile.proofs.Steps.{rest, rest_none, rest_more, rest_all}
 
 module _ (bs : List ℕ) (t : Trailer) where
+  -- a root that fits stands among the records, and has its elements within it where it is a List
+  pub root_stands : Framed bs t → root_fits bs t ≡ true → Stands bs t 0 × (kind_at bs t 0 ≡ 1 → Tiled bs t 0)
+  root_stands f h =
+      let q = and_parts (eqb (size_at bs t 0) t.record_count) (takes bs t (cond (eqb (kind_at bs t 0) 1) B X) 0) h in
+      let z = eqb-true (size_at bs t 0) t.record_count q.0 in
+      (record { framed = f; some = omega (arith, z, f.some); within = omega (arith, z) }, tiled_by bs t (cond (eqb (kind_at bs t 0) 1) B X) 0 q.1)
+
   -- the root of a file that passes
   pub root_passes : Sound bs t → Passes bs t 200 0
   root_passes s =
       let p = cond_ok _ _ _ s.tree in
-      let q = and_parts (eqb (size_at bs t 0) t.record_count) (takes bs t (cond (eqb (kind_at bs t 0) 1) B X) 0) p.0 in
-      let z = eqb-true (size_at bs t 0) t.record_count q.0 in
-      record {
-        stands = record { framed = s.framed; some = omega (arith, z, s.framed.some); within = omega (arith, z) };
-        tiled = tiled_by bs t (cond (eqb (kind_at bs t 0) 1) B X) 0 q.1;
-        clean = p.1;
-      }
+      let r = root_stands s.framed p.0 in
+      record { stands = r.0; tiled = r.1; clean = p.1 }
 
   module _ (i : ℕ) where
     -- a node that passes has a level, fits, and has children that pass
@@ -38,73 +40,37 @@ module _ (bs : List ℕ) (t : Trailer) where
         let e : n ≡ suc n - 1 = omega arith in
         (omega arith, p.0, ap (λ (m : ℕ). first_fault (node_check bs t m) (children bs t i)) (sym e) ∙ p.1)
 
--- the children of i before pos are behind a walk, and those from pos on pass, with so many levels left for each
-pub record Ahead (bs : List ℕ) (t : Trailer) (levels i pos : ℕ) : Type 0 where
-  pub passed : Passed bs t levels i pos
-  pub clean : first_fault (node_check bs t levels) (rest bs t i passed.count pos) ≡ Ok tt
+-- each node of a list stands under i, and passes with so many levels left
+abbrev pub AllPass : List ℕ → Trailer → ℕ → ℕ → List ℕ → Type 0
+AllPass bs t levels i [] = Unit {0}
+AllPass bs t levels i (p ∷ ps) = (size_at bs t p < size_at bs t i × Passes bs t levels p) × AllPass bs t levels i ps
 
 module _ (bs : List ℕ) (t : Trailer) (levels i : ℕ) where
-  abbrev pub ahead_none : (above : ℕ) → levels ≡ above - 1 → Passes bs t above i → Ahead bs t levels i (i + 1)
-  ahead_none above e p =
-      record {
-        passed = passed_none bs t levels i p.stands.some (passes_down bs t i above p.clean).1 p.tiled;
-        clean =
-            sym (ap (first_fault (node_check bs t levels)) (rest_none bs t i))
-            ∙ ap (λ (n : ℕ). first_fault (node_check bs t n) (children bs t i)) e
-            ∙ (passes_down bs t i above p.clean).2;
-      }
+  all_pass : (ps : List ℕ) → AllUnder bs t i ps → first_fault (node_check bs t levels) ps ≡ Ok tt → AllPass bs t levels i ps
+  all_pass [] u e = tt
+  all_pass (p ∷ ps) u e =
+      let q = then_ok (node_check bs t levels p) (first_fault (node_check bs t levels) ps) e in
+      ((u.0.smaller, record { stands = u.0.stands; tiled = u.0.tiled; clean = q.0 }), all_pass ps u.1 q.1)
 
-  module _ (pos : ℕ) (w : Ahead bs t levels i pos) (h : pos < end_of bs t i) where
-    pub parts : (node_check bs t levels pos ≡ Ok tt) × (first_fault (node_check bs t levels) (rest bs t i (w.passed.count + 1) (end_of bs t pos)) ≡ Ok tt)
-    parts =
-        then_ok (node_check bs t levels pos) _
-        (sym (ap (first_fault (node_check bs t levels)) (rest_more bs t i w.passed.count pos w.passed.walked h)) ∙ w.clean)
+  pub children_pass : (above : ℕ) → levels ≡ above - 1 → Passes bs t above i → AllPass bs t levels i (children bs t i)
+  children_pass above e p =
+      let d = passes_down bs t i above p.clean in
+      all_pass (children bs t i) (children_under bs t i p.stands d.1 p.tiled)
+      (ap (λ (n : ℕ). first_fault (node_check bs t n) (children bs t i)) e ∙ d.2)
 
-    pub child_passes : Stands bs t i → Passes bs t levels pos
-    child_passes s =
-        record {
-          stands = child_stands bs t levels i pos w.passed h s;
-          tiled = child_tiled bs t levels i pos w.passed h;
-          clean = parts.0;
-        }
+-- the first of them, as a node of its file, and the rest
+pub pass_next :
+    (bs : List ℕ) (t : Trailer) (levels i : ℕ) {ps : List ℕ} {p : ℕ} {rest : List ℕ} {q : Place} → ps ≡ p ∷ rest → q ≡ place bs t p →
+    AllPass bs t levels i ps → (size_at q.file q.trailer q.node < size_at bs t i × Passes q.file q.trailer levels q.node) × AllPass bs t levels i rest
+pass_next bs t levels i {p = p} {rest = rest} split here all =
+    let both : (size_at bs t p < size_at bs t i × Passes bs t levels p) × AllPass bs t levels i rest = subst (AllPass bs t levels i) split all in
+    (subst (λ (q : Place). size_at q.file q.trailer q.node < size_at bs t i × Passes q.file q.trailer levels q.node) (sym here) both.0, both.1)
 
-    pub child_less : size_at bs t pos < size_at bs t i
-    child_less = child_smaller bs t levels i pos w.passed h
-
-    abbrev pub ahead_more : Ahead bs t levels i (end_of bs t pos)
-    ahead_more = record { passed = passed_more bs t levels i pos w.passed h parts.0; clean = parts.1 }
-
--- `items` has the nodes below i that stand before pos, after what stood there at the start
-pub record Listed (bs : List ℕ) (t : Trailer) (levels depth i : ℕ) (start items : List Stand) (pos : ℕ) : Type 0 where
-  pub ahead : Ahead bs t levels i pos
-  pub same :
-      start ++ joined (preorder bs t levels depth) (children bs t i)
-      ≡ items ++ joined (preorder bs t levels depth) (rest bs t i ahead.passed.count pos)
-
-module _ (bs : List ℕ) (t : Trailer) (levels depth i : ℕ) (start : List Stand) where
-  pub listed_none : (above : ℕ) → levels ≡ above - 1 → Passes bs t above i → Listed bs t levels depth i start start (i + 1)
-  listed_none above e p =
-      record {
-        ahead = ahead_none bs t levels i above e p;
-        same = ap (λ (l : List ℕ). start ++ joined (preorder bs t levels depth) l) (rest_none bs t i);
-      }
-
-  module _ (items : List Stand) (pos : ℕ) (w : Listed bs t levels depth i start items pos) where
-    pub listed_all : end_of bs t i ≤ pos → items ≡ start ++ joined (preorder bs t levels depth) (children bs t i)
-    listed_all h =
-        sym
-        (w.same ∙ ap (λ (l : List ℕ). items ++ joined (preorder bs t levels depth) l) (rest_all bs t i w.ahead.passed.count pos h)
-        ∙ append-nil items)
-
-    pub listed_more : pos < end_of bs t i → Listed bs t levels depth i start (items ++ preorder bs t levels depth pos) (end_of bs t pos)
-    listed_more h =
-        record {
-          ahead = ahead_more bs t levels i pos w.ahead h;
-          same =
-              w.same
-              ∙ ap (λ (l : List ℕ). items ++ joined (preorder bs t levels depth) l) (rest_more bs t i w.ahead.passed.count pos w.ahead.passed.walked h)
-              ∙ sym (append_assoc items (preorder bs t levels depth pos) (joined (preorder bs t levels depth) (rest bs t i (w.ahead.passed.count + 1) (end_of bs t pos))));
-        }
+-- the nodes below a list, with its first node's moved to those that are listed
+pub listed_more : (f : ℕ → List Stand) {ps : List ℕ} {p : ℕ} {rest : List ℕ} (before after w : List Stand) → ps ≡ p ∷ rest → after ≡ before ++ f p → before ++ joined f ps ≡ w → after ++ joined f rest ≡ w
+listed_more f {p = p} {rest = rest} before after w split new all =
+    ap (λ (l : List Stand). l ++ joined f rest) new ∙ append_assoc before (f p) (joined f rest)
+    ∙ ap (λ (l : List ℕ). before ++ joined f l) (sym split) ∙ all
 
 -- a node and what is below it are its subtree in preorder
 pub listed_whole : (bs : List ℕ) (t : Trailer) (levels above depth i : ℕ) (before : List Stand) → above ≡ suc levels → (before ++ record { node = i; depth = depth } ∷ []) ++ joined (preorder bs t levels (depth + 1)) (children bs t i) ≡ before ++ preorder bs t above depth i

@@ -1,7 +1,8 @@
 -- The check of the tree answers the first fault in preorder, each node tested alone.
 use Rattle.std.proofs.Common.{◌≡◌, ℕ, zero, suc, ◌+◌, Bool, true, false, cond, leb, List, [], ◌∷◌, ◌++◌, Ok, Err, sym, refl, ap, ◌∙◌, arith}
 use Rattle.std.proofs.lemmas.Bool.{le-leb, lt-leb}
-use Rattle.treefile.specs.declared.fault.TreeFault.{TreeFault}
+use Rattle.treefile.specs.declared.fault.Refusal.{Refusal}
+use Rattle.treefile.specs.declared.fault.TreeReason.{TreeReason}
 use Rattle.treefile.specs.declared.stand.Stand.{Stand}
 use Rattle.treefile.specs.declared.trailer.Trailer.{Trailer}
 use Rattle.treefile.specs.Faults.{Verdict}
@@ -15,14 +16,14 @@ then_assoc (Err e) v w = refl
 
 -- a node that stands too deep
 deep :
-    (b c : Bool) (d s : TreeFault) → c ≡ false →
+    (b c : Bool) (d s : Refusal TreeReason) → c ≡ false →
     cond b (Err d) (Err s) ≡ and_then (cond b (cond c (Ok tt) (Err d)) (Err s)) (Ok tt)
 deep true c d s e = ap (λ (x : Bool). and_then (cond x (Ok tt) (Err d)) (Ok tt)) (sym e)
 deep false c d s e = refl
 
 -- a node that does not
 here :
-    (b c : Bool) (d s : TreeFault) (v : Verdict) → c ≡ true →
+    (b c : Bool) (d s : Refusal TreeReason) (v : Verdict) → c ≡ true →
     cond b v (Err s) ≡ and_then (cond b (cond c (Ok tt) (Err d)) (Err s)) v
 here true c d s v e = ap (λ (x : Bool). and_then (cond x (Ok tt) (Err d)) v) (sym e)
 here false c d s v e = refl

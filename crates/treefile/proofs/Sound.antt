@@ -1,7 +1,8 @@
 -- What a file that passes is known to have, and where the check of one that does not comes to its end.
 use Rattle.std.proofs.Common.{◌≡◌, ℕ, ◌<◌, Bool, true, false, cond, ltb, List, length, is_ok, Some, None, Ok, Err, Option, Result, sym, refl, ap, ◌∙◌, subst, arith}
 use Rattle.std.proofs.lemmas.Bool.Decides.{nat_tests}
-use Rattle.treefile.specs.declared.fault.TreeFault.{TreeFault}
+use Rattle.treefile.specs.declared.fault.Refusal.{Refusal}
+use Rattle.treefile.specs.declared.fault.TreeReason.{TreeReason}
 use Rattle.treefile.specs.declared.fault.TreeReason.TheVariants.{Frame, Counts}
 use Rattle.treefile.specs.declared.trailer.Trailer.{Trailer}
 use Rattle.treefile.specs.Faults.{Verdict, fault_of}
@@ -14,11 +15,11 @@ use Rattle.treefile.specs.Checked.{keep, framed_check, file_check}
 use Rattle.treefile.proofs.Firsts.{all_ok}
 use Rattle.treefile.proofs.Verdicts.{never, then_ok}
 
-not_err : (b : Bool) (e : TreeFault) (x : Result Trailer TreeFault) (t : Trailer) → cond b (Err e) x ≡ Ok t → (b ≡ false) × (x ≡ Ok t)
+not_err : (b : Bool) (e : Refusal TreeReason) (x : Result Trailer (Refusal TreeReason)) (t : Trailer) → cond b (Err e) x ≡ Ok t → (b ≡ false) × (x ≡ Ok t)
 not_err true e x t h = never e t h
 not_err false e x t h = (refl, h)
 
-same_ok : (t u : Trailer) → ◌≡◌ {A = Result Trailer TreeFault} (Ok t) (Ok u) → t ≡ u
+same_ok : (t u : Trailer) → ◌≡◌ {A = Result Trailer (Refusal TreeReason)} (Ok t) (Ok u) → t ≡ u
 same_ok t u h = cc
 
 framed_read : (bs : List ℕ) → ltb (length bs) 20 ≡ false → misframed bs (trailer_of bs) ≡ false → miscounted (trailer_of bs) ≡ false → Framed bs (trailer_of bs)
@@ -44,7 +45,7 @@ keep_ok : (u t : Trailer) (v : Verdict) → keep u v ≡ Ok t → (u ≡ t) × (
 keep_ok u t (Ok x) h = (same_ok u t h, refl)
 keep_ok u t (Err e) h = never e t h
 
-refused_none : (fault : ℕ → TreeFault) (o : Option ℕ) → refused_at fault o ≡ Ok tt → o ≡ None
+refused_none : (fault : ℕ → Refusal TreeReason) (o : Option ℕ) → refused_at fault o ≡ Ok tt → o ≡ None
 refused_none fault None h = refl
 refused_none fault (Some i) h = never _ tt h
 
@@ -64,7 +65,7 @@ pub record Sound (bs : List ℕ) (t : Trailer) : Type 0 where
   pub records : (k : ℕ) → k < t.record_count → record_ok bs t k ≡ true
   pub tree : tree_check bs t ≡ Ok tt
 
-framed_ok : (bs : List ℕ) (t : Trailer) (r : Result Trailer TreeFault) → framed_check bs r ≡ Ok t → (r ≡ Ok t) × (and_then (names_check bs t) (and_then (records_check bs t) (tree_check bs t)) ≡ Ok tt)
+framed_ok : (bs : List ℕ) (t : Trailer) (r : Result Trailer (Refusal TreeReason)) → framed_check bs r ≡ Ok t → (r ≡ Ok t) × (and_then (names_check bs t) (and_then (records_check bs t) (tree_check bs t)) ≡ Ok tt)
 framed_ok bs t (Err e) h = never e t h
 framed_ok bs t (Ok u) h =
     let k = keep_ok u t _ h in
@@ -85,7 +86,7 @@ sound bs t h =
       tree = r.1;
     }
 
-ok_some : (r : Result Trailer TreeFault) → is_ok r ≡ true → (t : Trailer) × (r ≡ Ok t)
+ok_some : (r : Result Trailer (Refusal TreeReason)) → is_ok r ≡ true → (t : Trailer) × (r ≡ Ok t)
 ok_some (Ok t) h = (t, refl)
 ok_some (Err e) h = let z : ◌≡◌ {A = ℕ} 0 1 = cc in absurd (omega arith)
 
@@ -98,7 +99,7 @@ sound_kept bs t k e =
 
 -- where the check ends: each exit is the answer of the whole
 module _ (bs : List ℕ) where
-  pub ends_at_trailer : (e : TreeFault) → Err e ≡ trailer_check bs → Err e ≡ file_check bs
+  pub ends_at_trailer : (e : Refusal TreeReason) → Err e ≡ trailer_check bs → Err e ≡ file_check bs
   unfolding file_check
   ends_at_trailer e h = ap (framed_check bs) h
 
@@ -107,21 +108,21 @@ module _ (bs : List ℕ) where
     unfolding file_check
     framed = ap (framed_check bs) h
 
-    pub ends_at_names : (e : TreeFault) → Err e ≡ names_check bs t → Err e ≡ file_check bs
+    pub ends_at_names : (e : Refusal TreeReason) → Err e ≡ names_check bs t → Err e ≡ file_check bs
     ends_at_names e n = ap (λ (v : Verdict). keep t (and_then v (and_then (records_check bs t) (tree_check bs t)))) n ∙ framed
 
     module _ (n : Ok tt ≡ names_check bs t) where
       named : keep t (and_then (records_check bs t) (tree_check bs t)) ≡ file_check bs
       named = ap (λ (v : Verdict). keep t (and_then v (and_then (records_check bs t) (tree_check bs t)))) n ∙ framed
 
-      pub ends_at_records : (e : TreeFault) → Err e ≡ records_check bs t → Err e ≡ file_check bs
+      pub ends_at_records : (e : Refusal TreeReason) → Err e ≡ records_check bs t → Err e ≡ file_check bs
       ends_at_records e r = ap (λ (v : Verdict). keep t (and_then v (tree_check bs t))) r ∙ named
 
       module _ (r : Ok tt ≡ records_check bs t) where
         recorded : keep t (tree_check bs t) ≡ file_check bs
         recorded = ap (λ (v : Verdict). keep t (and_then v (tree_check bs t))) r ∙ named
 
-        pub ends_at_tree : (e : TreeFault) → Err e ≡ tree_check bs t → Err e ≡ file_check bs
+        pub ends_at_tree : (e : Refusal TreeReason) → Err e ≡ tree_check bs t → Err e ≡ file_check bs
         ends_at_tree e d = ap (keep t) d ∙ recorded
 
         pub ends_well : Ok tt ≡ tree_check bs t → Ok t ≡ file_check bs

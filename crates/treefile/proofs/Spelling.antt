@@ -11,7 +11,7 @@ use Rattle.treefile.specs.Trees.{Tree, node, Trees, none, more, Entry, tree_reco
 use Rattle.treefile.specs.Spelling.{label_at, records_from, StandsAt, RowAt, Spells, Admitted, SpellsOne, SpellingRule}
 use Rattle.treefile.proofs.Same.{one_tree}
 use Rattle.treefile.proofs.Walking.{places, inside, stands_node, stands_size, stands_kind, from_length, row_first, row_more, children_places}
-use Rattle.treefile.proofs.Down.{children_sorted}
+use Rattle.treefile.proofs.Children.{children_sorted}
 use Rattle.treefile.proofs.Sorts.{AllSorted, tiled_by}
 use Rattle.treefile.proofs.Steps.{kids_more, lies_within}
 use Rattle.treefile.proofs.Verdicts.{never, then_ok, cond_ok}

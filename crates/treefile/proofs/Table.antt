@@ -1,8 +1,7 @@
 -- The rule of the slot table, by one test over its 96 rows, which is computed.
-use Rattle.std.proofs.Common.{◌≡◌, ℕ, zero, suc, ◌+◌, ◌<◌, ◌≤◌, Bool, true, false, not, ◌&&◌, ◌||◌, eqb, ltb, leb, [], length, get_or, filter, refl, ap, ⊎_elim, arith}
-use Rattle.std.proofs.ByRecursion.{kept_by_passes, All-get_or}
+use Rattle.std.proofs.Common.{◌≡◌, ℕ, zero, suc, ◌+◌, ◌<◌, ◌≤◌, Bool, true, false, not, ◌&&◌, ◌||◌, eqb, ltb, leb, List, [], ◌∷◌, length, get_or, filter, sym, refl, ap, ◌∙◌, ⊎_elim, arith}
 use Rattle.std.proofs.lemmas.List.{get_or_past}
-use Rattle.std.proofs.lemmas.Bool.{cases_lt, true≢false}
+use Rattle.std.proofs.lemmas.Bool.{cases_lt}
 use Rattle.std.proofs.lemmas.Bool.Decides.{Decides-below_and, nat_tests}
 use Rattle.treefile.specs.Kinds.{known}
 use Rattle.treefile.specs.Shown.{arity}
@@ -46,11 +45,6 @@ table_rule =
       unused = λ k c h i e. let t = cell_at k c h i in grind (arith, nat_tests, t);
     }
 
--- within the table a column holds the slot of its number
-pub in_table : (k c : ℕ) → k < 96 → c < 6 → slot k c ≡ get_or (columns k) c 0
-unfolding cell
-in_table k c h i = let t = cell_at k c h i in grind (arith, nat_tests, t)
-
 -- outside it a kind has no slot
 pub past_table : (k c : ℕ) → (k < 96 → 6 ≤ c) → length (columns k) ≤ c
 unfolding columns table
@@ -59,18 +53,6 @@ past_table k c h =
     (λ (g : 96 ≤ k).
     let e : columns k ≡ [] = ap (filter (λ a. ltb 0 a)) (get_or_past table k [] g) in omega (arith, ap length e))
     (cases_lt k 96)
-
--- in each slot something stands
-stands : (k c : ℕ) → c < length (columns k) → ltb 0 (get_or (columns k) c 0) ≡ true
-unfolding columns
-stands k c h =
-    All-get_or (λ x. ltb 0 x ≡ true) (columns k) c 0 h (kept_by_passes (λ x. ltb 0 x) (get_or table k []))
-
--- so an empty column comes after all slots
-pub empty_ends : (k c : ℕ) → get_or (columns k) c 0 ≡ 0 → length (columns k) ≤ c
-empty_ends k c e =
-    ⊎_elim (λ (h : c < length (columns k)). let t = stands k c h in let z : ◌≡◌ {A = Bool} true false = grind (arith, nat_tests, t) in absurd (true≢false z)) (λ h. h)
-    (cases_lt c (length (columns k)))
 
 no_slots : (k : ℕ) → 96 ≤ k → arity k ≡ 0
 no_slots k h = grind (arith, nat_tests, h)
@@ -81,3 +63,14 @@ arity_columns k =
     ⊎_elim (λ (l : k < 96). (row_at_lem k l).2)
     (λ (g : 96 ≤ k). let z = past_table k 0 (λ (l : k < 96). absurd (omega arith)) in omega (arith, no_slots k g, z))
     (cases_lt k 96)
+
+-- a number that is no kind's has no slots
+no_arity : (k : ℕ) → known k ≡ false → arity k ≡ 0
+no_arity k h = grind (arith, nat_tests, h)
+
+empty : (xs : List ℕ) → length xs ≡ 0 → xs ≡ []
+empty [] e = refl
+empty (x ∷ xs) e = absurd (omega (arith, e))
+
+pub unknown_has_none : (k : ℕ) → known k ≡ false → columns k ≡ []
+unknown_has_none k h = empty (columns k) (sym (arity_columns k) ∙ no_arity k h)

@@ -1,8 +1,9 @@
 -- Verdicts and tests: what follows where one is passed.
-use Rattle.std.proofs.Common.{◌≡◌, ℕ, Bool, true, false, cond, ◌&&◌, Ok, Err, Result, refl, ap, arith}
-use Rattle.treefile.specs.declared.fault.TreeFault.{TreeFault}
+use Rattle.std.proofs.Common.{◌≡◌, ℕ, Bool, true, false, cond, ◌&&◌, Ok, Err, Result, List, ◌∷◌, sym, refl, ap, ◌∙◌, arith}
+use Rattle.treefile.specs.declared.fault.Refusal.{Refusal}
+use Rattle.treefile.specs.declared.fault.TreeReason.{TreeReason}
 use Rattle.treefile.specs.Faults.{Verdict}
-use Rattle.treefile.specs.First.{and_then}
+use Rattle.treefile.specs.First.{and_then, first_fault}
 
 -- a fault is no pass
 pub never : {Q T E : Type 0} (e : E) (t : T) → ◌≡◌ {A = Result T E} (Err e) (Ok t) → Q
@@ -14,7 +15,7 @@ then_ok (Ok u) w h = (refl, h)
 then_ok (Err e) w h = never e tt h
 
 -- a test that is passed, and what is asked then
-pub cond_ok : (b : Bool) (v : Verdict) (e : TreeFault) → cond b v (Err e) ≡ Ok tt → (b ≡ true) × (v ≡ Ok tt)
+pub cond_ok : (b : Bool) (v : Verdict) (e : Refusal TreeReason) → cond b v (Err e) ≡ Ok tt → (b ≡ true) × (v ≡ Ok tt)
 cond_ok true v e h = (refl, h)
 cond_ok false v e h = never e tt h
 
@@ -25,3 +26,11 @@ and_true x y e = ap (λ (b : Bool). b && y) e
 pub neither : (b x y : Bool) → x ≡ false → y ≡ false → cond b x y ≡ false
 neither true x y e f = e
 neither false x y e f = f
+
+-- the first fault of a list: that of its first node, or, where that one has none, that of the rest
+module _ (f : ℕ → Verdict) (ps : List ℕ) (p : ℕ) (rest : List ℕ) (w : Verdict) (split : ps ≡ p ∷ rest) (all : first_fault f ps ≡ w) where
+  pub first_stop : (e : Refusal TreeReason) → f p ≡ Err e → Err e ≡ w
+  first_stop e h = sym (ap (λ (v : Verdict). and_then v (first_fault f rest)) h) ∙ sym (ap (first_fault f) split) ∙ all
+
+  pub first_more : f p ≡ Ok tt → first_fault f rest ≡ w
+  first_more h = sym (ap (λ (v : Verdict). and_then v (first_fault f rest)) h) ∙ sym (ap (first_fault f) split) ∙ all

@@ -4,7 +4,7 @@ use Rattle.treefile.specs.declared.fault.Layer.{Layer}
 use Rattle.treefile.specs.declared.fault.Layer.TheVariants as layer
 use Rattle.treefile.specs.declared.fault.TreeReason.{TreeReason}
 use Rattle.treefile.specs.declared.fault.TreeReason.TheVariants.{Frame, Counts, Name, Record, Slots, Depth}
-use Rattle.treefile.specs.declared.fault.TreeFault.{TreeFault}
+use Rattle.treefile.specs.declared.fault.Refusal.{Refusal}
 
 -- the number that a listing prints for a reason
 abbrev pub number_of : TreeReason → ℕ
@@ -25,9 +25,9 @@ layer_of Slots = layer.Tree
 layer_of Depth = layer.Tree
 
 -- a reason with the node and the row that it belongs to
-abbrev pub fault_of : TreeReason → ℕ → ℕ → TreeFault
-fault_of reason node row = record { reason = reason; node = node; row = row }
+abbrev pub fault_of : TreeReason → ℕ → ℕ → Refusal TreeReason
+fault_of reason node row = record { reason = reason; spot = record { node = node; row = row } }
 
 -- passed, or refused
 abbrev pub Verdict : Type 0
-Verdict = Result (Unit {0}) TreeFault
+Verdict = Result (Unit {0}) (Refusal TreeReason)

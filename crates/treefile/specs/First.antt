@@ -1,6 +1,7 @@
 -- The first of several that fails.
 use Rattle.std.specs.Prelude.{ℕ, zero, suc, ◌+◌, Bool, cond, List, [], ◌∷◌, Some, None, Ok, Err, Option}
-use Rattle.treefile.specs.declared.fault.TreeFault.{TreeFault}
+use Rattle.treefile.specs.declared.fault.Refusal.{Refusal}
+use Rattle.treefile.specs.declared.fault.TreeReason.{TreeReason}
 use Rattle.treefile.specs.Faults.{Verdict}
 
 -- the first number from `from` on, of n in a row, at which a test fails
@@ -9,7 +10,7 @@ first_bad ok from zero = None
 first_bad ok from (suc n) = cond (ok from) (first_bad ok (from + 1) n) (Some from)
 
 -- the fault at that number
-abbrev pub refused_at : (ℕ → TreeFault) → Option ℕ → Verdict
+abbrev pub refused_at : (ℕ → Refusal TreeReason) → Option ℕ → Verdict
 refused_at fault None = Ok tt
 refused_at fault (Some i) = Err (fault i)
 

@@ -1,6 +1,7 @@
 -- Which nodes have the children that their slots ask for, and how deep they stand.
-use Rattle.std.specs.Prelude.{◌≡◌, ℕ, zero, suc, ◌+◌, ◌≤◌, Bool, true, false, cond, not, ◌&&◌, ◌||◌, List, [], ◌∷◌, Err, ◌==◌, nat_le, nat_lt}
-use Rattle.treefile.specs.declared.fault.TreeFault.{TreeFault}
+use Rattle.std.specs.Prelude.{◌≡◌, ℕ, zero, suc, ◌+◌, ◌≤◌, Bool, true, false, cond, not, ◌&&◌, ◌||◌, List, [], ◌∷◌, Err, ◌==◌, nat_le, nat_lt, map}
+use Rattle.treefile.specs.declared.fault.Refusal.{Refusal}
+use Rattle.treefile.specs.declared.fault.TreeReason.{TreeReason}
 use Rattle.treefile.specs.declared.fault.TreeReason.TheVariants.{Slots, Depth}
 use Rattle.treefile.specs.declared.trailer.Trailer.{Trailer}
 use Rattle.treefile.specs.Faults.{Verdict, fault_of}
@@ -25,6 +26,22 @@ kids bs t (suc n) pos end = cond (nat_lt pos end) (pos ∷ kids bs t n (end_of b
 -- the children of a node
 abbrev pub children : List ℕ → Trailer → ℕ → List ℕ
 children bs t i = kids bs t (size_at bs t i) (i + 1) (end_of bs t i)
+
+-- a node of a file, by its number
+pub record Place : Type 0 where
+  pub file : List ℕ
+  pub trailer : Trailer
+  pub node : ℕ
+
+abbrev pub place : List ℕ → Trailer → ℕ → Place
+place bs t i = record { file = bs; trailer = t; node = i }
+
+-- the same, as nodes of their file
+abbrev pub places : List ℕ → Trailer → ℕ → ℕ → ℕ → List Place
+places bs t n pos end = map (place bs t) (kids bs t n pos end)
+
+abbrev pub child_places : List ℕ → Trailer → ℕ → List Place
+child_places bs t i = map (place bs t) (children bs t i)
 
 -- each node of a list lies within an end and is an element that the letter asks for
 abbrev pub elements_fit : List ℕ → Trailer → ℕ → ℕ → List ℕ → Bool
@@ -69,10 +86,10 @@ slots_fit bs t (a ∷ letters) end (p ∷ ps) = slot_fits bs t a end p && slots_
 abbrev pub fits : List ℕ → Trailer → ℕ → Bool
 fits bs t i = cond (kind_at bs t i == 1) true (slots_fit bs t (columns (kind_at bs t i)) (end_of bs t i) (children bs t i))
 
-abbrev pub slots_fault : List ℕ → Trailer → ℕ → TreeFault
+abbrev pub slots_fault : List ℕ → Trailer → ℕ → Refusal TreeReason
 slots_fault bs t i = fault_of Slots i (row_at bs t i)
 
-abbrev pub depth_fault : List ℕ → Trailer → ℕ → TreeFault
+abbrev pub depth_fault : List ℕ → Trailer → ℕ → Refusal TreeReason
 depth_fault bs t i = fault_of Depth i (row_at bs t i)
 
 -- the first fault in the subtree of a node, with so many levels left for it and what is below it

@@ -1,5 +1,8 @@
 -- The kinds of nodes, by their numbers in the file.
-use Rattle.std.specs.Prelude.{ℕ, Bool, cond, ◌&&◌, ◌||◌, Some, None, Option, ◌==◌, nat_le}
+use Rattle.std.specs.Prelude.{◌≡◌, ℕ, Bool, false, cond, ◌&&◌, ◌||◌, Some, None, Option, Result, MatchResult, ◌==◌, nat_le}
+use Rattle.treefile.specs.declared.kind.Kind.{Kind}
+use Rattle.treefile.specs.declared.kind.Kind.TheVariants as kinds
+use Rattle.treefile.specs.declared.kind.UnknownKind.{UnknownKind}
 use Rattle.treefile.specs.declared.kind.Naming.{Naming}
 use Rattle.treefile.specs.declared.kind.Naming.TheVariants.{Never, Always, Sometimes}
 
@@ -27,3 +30,48 @@ may_have_name kind = kind == 26 || kind == 43
 abbrev pub naming_of : ℕ → Option Naming
 naming_of kind =
     cond (needs_name kind) (Some Always) (cond (may_have_name kind) (Some Sometimes) (cond (known kind) (Some Never) None))
+
+-- the number of a kind in the file
+abbrev pub number : Kind → ℕ
+number kinds.Absent = 0
+number kinds.List = 1
+number kinds.Global = 16
+number kinds.Nonlocal = 17
+number kinds.FunctionDef = 18
+number kinds.ClassDef = 19
+number kinds.Expr = 20
+number kinds.If = 21
+number kinds.For = 22
+number kinds.While = 23
+number kinds.Plain = 24
+number kinds.Import = 25
+number kinds.ImportFrom = 26
+number kinds.Return = 27
+number kinds.Assert = 28
+number kinds.Delete = 29
+number kinds.Assign = 30
+number kinds.AugAssign = 31
+number kinds.AnnAssign = 32
+number kinds.With = 33
+number kinds.Try = 34
+number kinds.Raise = 35
+number kinds.Match = 36
+number kinds.TypeAlias = 37
+number kinds.Alias = 40
+number kinds.Id = 41
+number kinds.WithItem = 42
+number kinds.Handler = 43
+number kinds.Params = 44
+number kinds.Arg = 45
+number kinds.Generator = 46
+number kinds.Same = 64
+number kinds.Load = 65
+number kinds.Call = 66
+number kinds.Name = 67
+number kinds.Lambda = 68
+number kinds.NamedExpr = 69
+number kinds.Comprehension = 70
+
+-- a number with the kind that has it, or an error with a number that no kind has
+abbrev pub Numbered : ℕ → Result Kind UnknownKind → Type 0
+Numbered n r = MatchResult r (λ kind. number kind ≡ n) (λ e. (e.0 ≡ n) × (known n ≡ false))

@@ -1,5 +1,7 @@
 -- The slots of each kind, by letters.
 use Rattle.std.specs.Prelude.{◌≡◌, ℕ, ◌+◌, ◌<◌, Bool, false, cond, ◌&&◌, ◌||◌, List, [], ◌∷◌, filter, ◌==◌, nat_le, nat_lt, slice_index_or}
+use Rattle.treefile.specs.declared.slot.Slot.{Slot}
+use Rattle.treefile.specs.declared.slot.Slot.TheVariants as asked
 use Rattle.treefile.specs.Kinds.{statement, expression, known}
 
 -- nothing
@@ -61,6 +63,23 @@ D = 13
 -- a Name: the target of a NamedExpr
 abbrev pub T : ℕ
 T = 14
+
+-- the letter of a slot
+abbrev pub letter : Slot → ℕ
+letter asked.Expression = X
+letter asked.MaybeExpression = O
+letter asked.Expressions = L
+letter asked.Statements = B
+letter asked.Ids = I
+letter asked.Aliases = A
+letter asked.WithItems = W
+letter asked.Handlers = H
+letter asked.Args = R
+letter asked.MaybeBareArg = V
+letter asked.Params = Y
+letter asked.Generators = G
+letter asked.MaybeId = D
+letter asked.Name = T
 
 -- the letters that ask for a List
 abbrev pub asks_list : ℕ → Bool

@@ -1,6 +1,7 @@
 -- The trailer of a tree file: the last 20 bytes, five words.
 use Rattle.std.specs.Prelude.{ℕ, ◌+◌, ◌-◌, ◌*◌, ◌<◌, ◌≤◌, Bool, cond, not, ◌||◌, List, length, Ok, Err, Result, ◌==◌, nat_lt}
-use Rattle.treefile.specs.declared.fault.TreeFault.{TreeFault}
+use Rattle.treefile.specs.declared.fault.Refusal.{Refusal}
+use Rattle.treefile.specs.declared.fault.TreeReason.{TreeReason}
 use Rattle.treefile.specs.declared.fault.TreeReason.TheVariants.{Frame, Counts}
 use Rattle.treefile.specs.declared.trailer.Trailer.{Trailer}
 use Rattle.treefile.specs.Faults.{fault_of}
@@ -31,7 +32,7 @@ abbrev pub miscounted : Trailer → Bool
 miscounted t = t.record_count == 0 || (nat_lt 65535 t.record_count || nat_lt 65535 t.name_count)
 
 -- the trailer, or what is wrong with it
-abbrev pub trailer_check : List ℕ → Result Trailer TreeFault
+abbrev pub trailer_check : List ℕ → Result Trailer (Refusal TreeReason)
 trailer_check bs =
     cond (nat_lt (length bs) 20) (Err (fault_of Frame 0 0))
     (cond (misframed bs (trailer_of bs)) (Err (fault_of Frame 0 0))

@@ -1,6 +1,7 @@
-// Why a tree file is refused.
+// Why something is refused: a reason, and where it lies.
+ghost use Rattle.std.specs.Prelude.{◌≡◌, ℕ};
 ghost use Rattle.treefile.specs.Faults.{layer_of, number_of};
-ghost use Rattle.std.specs.Prelude.{◌≡◌};
+ghost use Rattle.treefile.specs.declared.fault.Layer.{Layer};
 
 // The layers of the program, in the order in which data flows.
 #[derive(Clone, Copy, Drop, PartialEq, Eq, Debug)]
@@ -12,58 +13,85 @@ pub enum Layer {
     LookUp,
 }
 
-// What is wrong with a tree file.
+// A node of the tree, and its row in the script.
 #[derive(Clone, Copy, Drop, PartialEq, Eq, Debug)]
-pub enum TreeReason {
-    Frame,
-    Counts,
-    Name,
-    Record,
-    Slots,
-    Depth,
-}
-
-// A reason, and the node and the row that it belongs to.
-#[derive(Clone, Copy, Drop, PartialEq, Eq, Debug)]
-pub struct TreeFault {
-    pub reason: TreeReason,
+pub struct Spot {
     pub node: u32,
     pub row: u32,
 }
 
-impl TreeReason {
+// What can be wrong: each reason has a number and a layer.
+pub trait Reason {
+    ghost number_of: { Self → ℕ };
+
+    ghost layer_of: { Self → Layer };
+
     // The number that a listing prints.
-    pub fn number(self) -> u8
-        ensures { result ≡ number_of self }
-    {
-        match self {
-            TreeReason::Frame => 1,
-            TreeReason::Counts => 2,
-            TreeReason::Name => 3,
-            TreeReason::Record => 4,
-            TreeReason::Slots => 5,
-            TreeReason::Depth => 6,
-        }
-    }
+    fn number(self) -> u8
+        ensures { result ≡ number_of self };
 
     // The layer that refuses.
-    pub fn layer(self) -> Layer
-        ensures { result ≡ layer_of self }
+    fn layer(self) -> Layer
+        ensures { result ≡ layer_of self };
+}
+
+// A reason, and the node and the row that it belongs to.
+#[derive(Clone, Copy, Drop, PartialEq, Eq, Debug)]
+pub struct Refusal<R> {
+    pub reason: R,
+    pub spot: Spot,
+}
+
+impl<R> Refusal<R> {
+    // A reason, at a node in a row.
+    pub(crate) fn new(reason: R, node: u32, row: u32) -> Refusal<R>
+        ensures { result ≡ record { reason = reason; spot = record { node = node; row = row } } }
     {
-        Layer::Tree
+        Refusal {
+            reason,
+            spot: Spot { node, row },
+        }
     }
 }
 
-impl TreeFault {
+impl<R: Reason + Copy> Refusal<R> {
     pub fn number(&self) -> u8
-        ensures { result ≡ number_of self.now.reason }
+        ensures { result ≡ R.number_of self.now.reason }
     {
         self.reason.number()
     }
 
     pub fn layer(&self) -> Layer
-        ensures { result ≡ layer_of self.now.reason }
+        ensures { result ≡ R.layer_of self.now.reason }
     {
         self.reason.layer()
+    }
+}
+
+// What is wrong with a tree file, by the number that a listing prints.
+#[derive(Clone, Copy, Drop, PartialEq, Eq, Debug)]
+pub enum TreeReason {
+    Frame = 1,
+    Counts = 2,
+    Name = 3,
+    Record = 4,
+    Slots = 5,
+    Depth = 6,
+}
+
+// Why a tree file is refused.
+pub type TreeFault = Refusal<TreeReason>;
+
+impl Reason for TreeReason {
+    ghost number_of = { number_of };
+
+    ghost layer_of = { layer_of };
+
+    fn number(self) -> u8 {
+        self as u8
+    }
+
+    fn layer(self) -> Layer {
+        Layer::Tree
     }
 }

@@ -1,59 +1,134 @@
 // The kinds of nodes, by their numbers in the file.
-ghost use Rattle.treefile.specs.Kinds.{expression, naming_of, statement};
-ghost use Rattle.std.specs.Prelude.{◌≡◌};
+ghost use Rattle.std.specs.Prelude.{◌≡◌, Some};
+ghost use Rattle.treefile.specs.Kinds.{Numbered, expression, naming_of, number, statement};
 
-pub(crate) const ABSENT: u8 = 0;
+// What a node is. The numbers are those of the file.
+#[derive(Clone, Copy, Drop, PartialEq, Eq, Debug)]
+pub(crate) enum Kind {
+    Absent = 0,
+    List = 1,
+    Global = 16,
+    Nonlocal = 17,
+    FunctionDef = 18,
+    ClassDef = 19,
+    Expr = 20,
+    If = 21,
+    For = 22,
+    While = 23,
+    Plain = 24,
+    Import = 25,
+    ImportFrom = 26,
+    Return = 27,
+    Assert = 28,
+    Delete = 29,
+    Assign = 30,
+    AugAssign = 31,
+    AnnAssign = 32,
+    With = 33,
+    Try = 34,
+    Raise = 35,
+    Match = 36,
+    TypeAlias = 37,
+    Alias = 40,
+    Id = 41,
+    WithItem = 42,
+    Handler = 43,
+    Params = 44,
+    Arg = 45,
+    Generator = 46,
+    Same = 64,
+    Load = 65,
+    Call = 66,
+    Name = 67,
+    Lambda = 68,
+    NamedExpr = 69,
+    Comprehension = 70,
+}
 
-pub(crate) const LIST: u8 = 1;
-
-pub(crate) const IMPORT_FROM: u8 = 26;
-
-pub(crate) const ANN_ASSIGN: u8 = 32;
-
-pub(crate) const ALIAS: u8 = 40;
-
-pub(crate) const ID: u8 = 41;
-
-pub(crate) const WITH_ITEM: u8 = 42;
-
-pub(crate) const HANDLER: u8 = 43;
-
-pub(crate) const PARAMS: u8 = 44;
-
-pub(crate) const ARG: u8 = 45;
-
-pub(crate) const GENERATOR: u8 = 46;
-
-pub(crate) const NAME: u8 = 67;
+// A number that is no kind's.
+#[derive(Clone, Copy, Drop, PartialEq, Eq, Debug)]
+pub(crate) struct UnknownKind(pub(crate) u8);
 
 // Whether nodes of a kind have a name.
-#[derive(Clone, Copy, Drop)]
+#[derive(Clone, Copy, Drop, PartialEq, Eq, Debug)]
 pub(crate) enum Naming {
     Never,
     Always,
     Sometimes,
 }
 
-// The rule of a kind; none for a number that is no kind.
-pub(crate) fn naming_of(kind: u8) -> Option<Naming>
-    ensures { result ≡ naming_of kind }
-{
-    match kind {
-        18 | 19 | ALIAS | ID | ARG | NAME => Some(Naming::Always),
-        IMPORT_FROM | HANDLER => Some(Naming::Sometimes),
-        0..=1 | 16..=37 | 40..=46 | 64..=70 => Some(Naming::Never),
-        _ => None,
+impl TryFrom<u8> for Kind {
+    type Error = UnknownKind;
+
+    ghost try_from_gives = { Numbered };
+
+    fn try_from(number: u8) -> Result<Self, UnknownKind> {
+        Ok(match number {
+            0 => Kind::Absent,
+            1 => Kind::List,
+            16 => Kind::Global,
+            17 => Kind::Nonlocal,
+            18 => Kind::FunctionDef,
+            19 => Kind::ClassDef,
+            20 => Kind::Expr,
+            21 => Kind::If,
+            22 => Kind::For,
+            23 => Kind::While,
+            24 => Kind::Plain,
+            25 => Kind::Import,
+            26 => Kind::ImportFrom,
+            27 => Kind::Return,
+            28 => Kind::Assert,
+            29 => Kind::Delete,
+            30 => Kind::Assign,
+            31 => Kind::AugAssign,
+            32 => Kind::AnnAssign,
+            33 => Kind::With,
+            34 => Kind::Try,
+            35 => Kind::Raise,
+            36 => Kind::Match,
+            37 => Kind::TypeAlias,
+            40 => Kind::Alias,
+            41 => Kind::Id,
+            42 => Kind::WithItem,
+            43 => Kind::Handler,
+            44 => Kind::Params,
+            45 => Kind::Arg,
+            46 => Kind::Generator,
+            64 => Kind::Same,
+            65 => Kind::Load,
+            66 => Kind::Call,
+            67 => Kind::Name,
+            68 => Kind::Lambda,
+            69 => Kind::NamedExpr,
+            70 => Kind::Comprehension,
+            _ => return Err(UnknownKind(number)),
+        })
     }
 }
 
-pub(crate) fn is_statement(kind: u8) -> bool
-    ensures { result ≡ statement kind }
-{
-    kind >= 16 && kind <= 37
-}
+impl Kind {
+    // Whether its nodes have a name.
+    pub(crate) fn naming(self) -> Naming
+        ensures { Some result ≡ naming_of (number self) }
+    {
+        match self {
+            Kind::FunctionDef | Kind::ClassDef | Kind::Alias | Kind::Id | Kind::Arg | Kind::Name =>
+                Naming::Always,
+            Kind::ImportFrom | Kind::Handler => Naming::Sometimes,
+            _ => Naming::Never,
+        }
+    }
 
-pub(crate) fn is_expression(kind: u8) -> bool
-    ensures { result ≡ expression kind }
-{
-    kind >= 64 && kind <= 70
+    pub(crate) fn is_statement(self) -> bool
+        ensures { result ≡ statement (number self) }
+    {
+        matches!(self as u8, 16..=37)
+    }
+
+    pub(crate) fn is_expression(self) -> bool
+        ensures { result ≡ expression (number self) }
+    {
+        matches!(self as u8, 64..=70)
+    }
 }

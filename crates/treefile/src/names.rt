@@ -1,40 +1,66 @@
 // The name index of a tree file.
-ghost use Rattle.std.specs.Prelude.{◌≡◌, ◌<◌};
-ghost use Rattle.treefile.specs.Names.{name_ok, names_check};
-ghost use Rattle.treefile.specs.Trailer.{Framed};
+ghost use Rattle.std.specs.Prelude.{◌≡◌, ◌^◌, ◌<◌};
+ghost use Rattle.treefile.specs.Names.{name_bytes, name_length, name_ok, name_place, names_check};
 
-use super::fault::{TreeFault, TreeReason};
-use super::trailer::{ENTRY, TRAILER, Trailer};
-use super::words::word_at;
+use crate::areas::Areas;
+use crate::fault::{TreeFault, TreeReason};
+use crate::trailer::{ENTRY, TRAILER};
+use crate::words::word_at;
 
 // The most bytes of a name.
 const LONGEST: usize = 255;
 
-// Whether a name has 1 to 255 bytes and ends before the trailer.
-fn name_ok(file: &[u8], t: Trailer, n: usize) -> bool
-    requires framed { Framed file.now t }
-    requires number { n < t.name_count }
-    ensures { result ≡ name_ok file.now t n }
-{
-    let entry = t.index + ENTRY * n;
-    let place = word_at(file, entry) as usize;
-    let length = word_at(file, entry + 4) as usize;
-    length >= 1 && length <= LONGEST && place + length <= file.len() - TRAILER
+// Where a name lies.
+#[derive(Clone, Copy, Drop)]
+struct Entry {
+    place: usize,
+    length: usize,
+    ghost near: { place < 2 ^ 32 },
+    ghost short: { length < 2 ^ 32 },
 }
 
-// The first name that is not so.
-pub(crate) fn check_names(file: &[u8], t: Trailer) -> Result<(), TreeFault>
-    requires { Framed file.now t }
-    ensures { result ≡ names_check file.now t }
-{
-    for n in 0..t.name_count {
-        if !name_ok(file, t, n) {
-            return Err(TreeFault {
-                reason: TreeReason::Name,
-                node: n as u32,
-                row: 0,
-            });
+impl<'a> Areas<'a> {
+    // The entry of a name.
+    fn entry(&self, n: usize) -> Entry
+        requires { n < self.now.trailer.name_count }
+        ensures place { result.place ≡ name_place self.now.file.now self.now.trailer n }
+        ensures length { result.length ≡ name_length self.now.file.now self.now.trailer n }
+    {
+        let at = self.trailer.index + ENTRY * n;
+        Entry {
+            place: word_at(self.file, at) as usize,
+            length: word_at(self.file, at + 4) as usize,
         }
     }
-    Ok(())
+
+    // Whether a name has 1 to 255 bytes and ends before the trailer.
+    fn name_ok(&self, n: usize) -> bool
+        requires { n < self.now.trailer.name_count }
+        ensures { result ≡ name_ok self.now.file.now self.now.trailer n }
+    {
+        let Entry { place, length } = self.entry(n);
+        length >= 1 && length <= LONGEST && place + length <= self.file.len() - TRAILER
+    }
+
+    // The bytes of a name, as a part of the file, or as many of them as the file has.
+    pub(crate) fn name_bytes(&self, n: usize) -> &'a [u8]
+        requires { n < self.now.trailer.name_count }
+        ensures { result.now ≡ name_bytes self.now.file.now self.now.trailer n }
+    {
+        let Entry { place, length } = self.entry(n);
+        let rest = &self.file[place.min(self.file.len())..];
+        &rest[..length.min(rest.len())]
+    }
+
+    // The first name that is not in order.
+    pub(crate) fn check_names(&self) -> Result<(), TreeFault>
+        ensures { result ≡ names_check self.now.file.now self.now.trailer }
+    {
+        for n in 0..self.trailer.name_count {
+            if !self.name_ok(n) {
+                return Err(TreeFault::new(TreeReason::Name, n as u32, 0));
+            }
+        }
+        Ok(())
+    }
 }

@@ -1,11 +1,11 @@
 // The trailer of a tree file.
-ghost use Rattle.treefile.specs.Faults.{fault_of};
+ghost use Rattle.std.specs.Prelude.{◌≡◌, IfOk};
+ghost use Rattle.std.specs.Result.{result_map_both};
 ghost use Rattle.treefile.specs.Trailer.{trailer_check};
-ghost use Rattle.treefile.specs.declared.fault.TreeReason.TheVariants.{Frame};
-ghost use Rattle.std.specs.Prelude.{◌≡◌};
 
-use super::fault::{TreeFault, TreeReason};
-use super::words::word_at;
+use crate::areas::Areas;
+use crate::fault::{TreeFault, TreeReason};
+use crate::words::word_at;
 
 // The bytes of a trailer.
 pub(crate) const TRAILER: usize = 20;
@@ -28,12 +28,13 @@ pub struct Trailer {
     pub name_count: usize,
 }
 
-// The trailer of a file whose frame and counts are sound.
-pub(crate) fn check_trailer(file: &[u8]) -> Result<Trailer, TreeFault>
-    ensures { result ≡ trailer_check file.now }
+// The areas of a file whose frame and counts are sound.
+pub(crate) fn check_trailer(file: &[u8]) -> Result<Areas<'_>, TreeFault>
+    ensures value { result_map_both (λ areas. areas.trailer) (λ e. e) result ≡ trailer_check file.now }
+    ensures file { IfOk result (λ areas. areas.file.now ≡ file.now) }
 {
     if file.len() < TRAILER {
-        return Err(frame_fault());
+        return Err(TreeFault::new(TreeReason::Frame, 0, 0));
     }
     let start = file.len() - TRAILER;
     let trailer = Trailer {
@@ -47,24 +48,10 @@ pub(crate) fn check_trailer(file: &[u8]) -> Result<Trailer, TreeFault>
         || trailer.records + RECORD * trailer.record_count > start
         || trailer.index + ENTRY * trailer.name_count > start
     {
-        return Err(frame_fault());
+        return Err(TreeFault::new(TreeReason::Frame, 0, 0));
     }
     if trailer.record_count == 0 || trailer.record_count > MOST || trailer.name_count > MOST {
-        return Err(TreeFault {
-            reason: TreeReason::Counts,
-            node: 0,
-            row: 0,
-        });
+        return Err(TreeFault::new(TreeReason::Counts, 0, 0));
     }
-    Ok(trailer)
-}
-
-fn frame_fault() -> TreeFault
-    ensures { result ≡ fault_of Frame 0 0 }
-{
-    TreeFault {
-        reason: TreeReason::Frame,
-        node: 0,
-        row: 0,
-    }
+    Ok(Areas { file, trailer })
 }

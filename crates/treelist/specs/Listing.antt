@@ -9,7 +9,8 @@ use Rattle.treefile.specs.KindWords.{kind_word}
 use Rattle.treefile.specs.Preorder.{preorder}
 use Rattle.treefile.specs.Records.{kind_at, row_at}
 use Rattle.treefile.specs.Spelling.{name_at}
-use Rattle.treefile.specs.declared.fault.TreeFault.{TreeFault}
+use Rattle.treefile.specs.declared.fault.Refusal.{Refusal}
+use Rattle.treefile.specs.declared.fault.TreeReason.{TreeReason}
 use Rattle.treefile.specs.declared.stand.Stand.{Stand}
 use Rattle.treefile.specs.declared.trailer.Trailer.{Trailer}
 
@@ -31,9 +32,9 @@ record_lines bs t [] = []
 record_lines bs t (s ∷ ss) = ended (record_line bs t s) ++ record_lines bs t ss
 
 -- the records of a file that passes, or its fault
-abbrev pub answer_lines : List ℕ → Result Trailer TreeFault → List ℕ
+abbrev pub answer_lines : List ℕ → Result Trailer (Refusal TreeReason) → List ℕ
 answer_lines bs (Ok t) = record_lines bs t (preorder bs t 200 1 0)
-answer_lines bs (Err f) = ended (fault_line (number_of f.reason) f.node f.row)
+answer_lines bs (Err f) = ended (fault_line (number_of f.reason) f.spot.node f.spot.row)
 
 -- an input of more than 4,194,304 bytes is refused as no file
 abbrev pub listing_of : List ℕ → List ℕ

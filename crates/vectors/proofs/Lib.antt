@@ -1,3 +1,2 @@
--- Lemmas on texts in hexadecimal and on lines.
-pub mod Lines
+-- Lemmas on texts in hexadecimal.
 pub mod Spelled

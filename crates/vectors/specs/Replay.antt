@@ -1,16 +1,17 @@
 -- What the program prints of a stored file.
 use Rattle.std.specs.Prelude.{◌≡◌, ℕ, ◌<◌, List, ◌∷◌, ◌++◌, length, Some, None, Ok, Err, codes, Option, Result, ◌≢◌, slice_index}
 use Rattle.listing.specs.Lines.{fault_line}
-use Rattle.treefile.specs.declared.fault.TreeFault.{TreeFault}
+use Rattle.treefile.specs.declared.fault.Refusal.{Refusal}
+use Rattle.treefile.specs.declared.fault.TreeReason.{TreeReason}
 use Rattle.treefile.specs.declared.trailer.Trailer.{Trailer}
 use Rattle.treefile.specs.Checked.{file_check}
 use Rattle.treefile.specs.Faults.{number_of}
 use Rattle.vectors.specs.Hex.{bytes_of}
 
 -- a title with what the check answers: `passes`, or `R` with the fault's number, node and row
-abbrev pub answer_line : List ℕ → Result Trailer TreeFault → List ℕ
+abbrev pub answer_line : List ℕ → Result Trailer (Refusal TreeReason) → List ℕ
 answer_line title (Ok t) = title ++ codes " passes"
-answer_line title (Err f) = title ++ (codes " " ++ fault_line (number_of f.reason) f.node f.row)
+answer_line title (Err f) = title ++ (codes " " ++ fault_line (number_of f.reason) f.spot.node f.spot.row)
 
 -- the same for a file in hexadecimal
 abbrev pub file_line : List ℕ → Option (List ℕ) → List ℕ

@@ -27,21 +27,20 @@ fn hex_byte(high: u8, low: u8) -> Option<u8>
 }
 
 // The bytes that a text spells, if it spells any.
+#[tactic(auto, using(crate::proofs::Spelled::odd, crate::proofs::Spelled::begun, crate::proofs::Spelled::again))]
 pub fn bytes_of(heap: Global, text: &[u8]) -> Result<Option<Vec<u8>>, AllocError>
     ensures { IfOk result (λ o. option_map vec_items o ≡ bytes_of text.now) }
 {
+    if text.len() % 2 != 0 {
+        return Ok(None);
+    }
+    let (pairs, _) = text.as_chunks::<2>();
     let mut bytes = Vec::new(heap);
-    let mut rest = text;
-    while rest.len() >= 2 {
-        let Some(byte) = hex_byte(rest[0], rest[1]) else {
+    for [high, low] in pairs {
+        let Some(byte) = hex_byte(*high, *low) else {
             return Ok(None);
         };
         bytes.push(byte)?;
-        rest = rest.split_at(2).1;
     }
-    if rest.is_empty() {
-        Ok(Some(bytes))
-    } else {
-        Ok(None)
-    }
+    Ok(Some(bytes))
 }

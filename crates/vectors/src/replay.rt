@@ -1,5 +1,6 @@
 // What is printed of a stored file.
 ghost use Rattle.std.specs.Prelude.{◌≡◌, IfOk, string_bytes};
+ghost use Rattle.std.specs.Result.{result_map_both};
 ghost use Rattle.vectors.specs.Replay.{Answered, answer_line, replayed};
 
 use super::hex::bytes_of;
@@ -7,24 +8,20 @@ use listing::lines::FaultLine;
 use std::alloc::{AllocError, Global};
 use treefile::check::check;
 use treefile::fault::TreeFault;
-use treefile::trailer::Trailer;
+use treefile::tree::Tree;
 
 // A title with what the check of a file answers.
 fn answer_line(
     heap: Global,
     title: &str,
-    answer: Result<Trailer, TreeFault>,
+    answer: Result<Tree<'_>, TreeFault>,
 ) -> Result<String, AllocError>
-    ensures { IfOk result (λ s. string_bytes s ≡ answer_line title.now answer) }
+    ensures { IfOk result (λ s. string_bytes s ≡ answer_line title.now (result_map_both (λ tree. tree.areas.trailer) (λ e. e) answer.entry)) }
 {
     match answer {
         Ok(_) => format!(in heap; "{title} passes"),
         Err(fault) => {
-            let line = FaultLine {
-                number: fault.number(),
-                node: fault.node,
-                row: fault.row,
-            };
+            let line = FaultLine::from(fault);
             format!(in heap; "{title} {line}")
         }
     }

@@ -1,6 +1,7 @@
 -- Whole tree files, and what the check answers to each.
 use Rattle.std.specs.Prelude.{◌≡◌, ℕ, zero, suc, ◌+◌, ◌*◌, List, [], ◌∷◌, ◌++◌, replicate, Ok, Err, codes, Result}
-use Rattle.treefile.specs.declared.fault.TreeFault.{TreeFault}
+use Rattle.treefile.specs.declared.fault.Refusal.{Refusal}
+use Rattle.treefile.specs.declared.fault.TreeReason.{TreeReason}
 use Rattle.treefile.specs.declared.fault.TreeReason.TheVariants.{Frame, Counts, Name, Record, Slots, Depth}
 use Rattle.treefile.specs.declared.trailer.Trailer.{Trailer}
 use Rattle.treefile.specs.Checked.{file_check}
@@ -10,7 +11,7 @@ use Rattle.worked.specs.Layout.{absent, list, function_def, expr, returns, param
 -- a file, and what its check answers
 pub record Case : Type 0 where
   pub bytes : List ℕ
-  pub answer : Result Trailer TreeFault
+  pub answer : Result Trailer (Refusal TreeReason)
 
 -- `def f(t): return lambda: t`, over two rows
 abbrev function_nodes : List (List ℕ)

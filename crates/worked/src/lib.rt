@@ -16,12 +16,9 @@ pub fn worked_files() -> u8
 mod tests {
     use treefile::check::check;
 
-    // The number of the fault of a file, or 0.
-    fn number(file: &[u8]) -> u8 {
-        match check(file) {
-            Ok(_) => 0,
-            Err(fault) => fault.number(),
-        }
+    // The number of the fault of a file, if it has one.
+    fn number(file: &[u8]) -> Option<u8> {
+        check(file).err().map(|fault| fault.number())
     }
 
     // A file of one record without a name, in row 1.
@@ -29,10 +26,7 @@ mod tests {
         let mut file = [0; 36];
         file[0] = kind;
         file[4] = size;
-        file[8] = 255;
-        file[9] = 255;
-        file[10] = 255;
-        file[11] = 255;
+        file[8..12].fill(255);
         file[12] = 1;
         file[20] = 1;
         file[32] = 36;
@@ -41,21 +35,25 @@ mod tests {
 
     #[test]
     fn less_than_a_trailer(rt: HostRuntime) {
-        assert_eq!(rt; number(&[0; 19]), 1);
+        assert_eq!(rt; number(&[0; 19]), Some(1));
     }
 
     #[test]
     fn no_record(rt: HostRuntime) {
         let mut file = [0; 20];
         file[16] = 20;
-        assert_eq!(rt; number(&file), 2);
+        assert_eq!(rt; number(&file), Some(2));
     }
 
     #[test]
     fn one_node(rt: HostRuntime) {
-        assert_eq!(rt; number(&one_record(1, 1)), 0);
-        assert_eq!(rt; number(&one_record(2, 1)), 4, "no kind");
-        assert_eq!(rt; number(&one_record(1, 2)), 5, "a size past the records");
-        assert_eq!(rt; number(&one_record(20, 1)), 5, "an Expr at the root");
+        assert_eq!(rt; number(&one_record(1, 1)), None);
+        assert_eq!(rt; number(&one_record(2, 1)), Some(4), "no kind");
+        assert_eq!(rt;
+            number(&one_record(1, 2)),
+            Some(5),
+            "a size past the records"
+        );
+        assert_eq!(rt; number(&one_record(20, 1)), Some(5), "an Expr at the root");
     }
 }

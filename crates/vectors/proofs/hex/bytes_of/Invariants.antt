@@ -1,10 +1,7 @@
--- The loop keeps what is spelled so far, and the rest grows shorter.
-use Rattle.std.proofs.Common.{length, vec_items}
+-- The loop keeps what is spelled so far.
+use Rattle.std.proofs.Common.{drop, vec_items}
 use Rattle.vectors.proofs.Spelled.{Sofar}
 use Rattle.vectors.proofs.hex.bytes_of.Given as goal
 
-abbrev pub invariant-loop-rest : goal.invariant-loop-rest
-invariant-loop-rest l = Sofar l.text (vec_items l.bytes) l.rest
-
-abbrev pub decreases-loop-rest : goal.decreases-loop-rest
-decreases-loop-rest l = length l.rest
+abbrev pub invariant-loop-high : goal.invariant-loop-high
+invariant-loop-high l = Sofar l.text (vec_items l.bytes) (drop l.high-index l.pairs)

@@ -1,28 +1,16 @@
--- A table is opened whole, or not at all.
-use Rattle.std.proofs.Common.{ap}
-use Rattle.store.proofs.Frames.{same_truncated}
-use Rattle.store.proofs.Opening.{name_lacks, table_opened, table_lacks}
+-- Where there is no place for the table, its name is taken back.
+use Rattle.std.proofs.Common.{◌≡◌, ℕ, List, Ok, ap, ap₂, subst}
+use Rattle.store.specs.Mangling.{under, text_of}
+use Rattle.store.specs.Memory.{Numbers, held, room_of}
+use Rattle.store.specs.Texts.{interned}
+use Rattle.store.proofs.Opening.{table_lacks}
 use Rattle.store.proofs.memory.Memory.add_table.Goals as goal
-
-pub returns-in_default : goal.returns-in_default
-returns-in_default c =
-    name_lacks c.args.self.now c.intern.new.self c.args.around c.args.typ c.args.name.now c.args.spot c.intern.ensures.keeps
-    c.lack.result c.lack.ensures c.in_default.ensures.numbers
-
-pub returns-in-Ok : goal.returns-in-Ok
-returns-in-Ok c =
-    let e = c.nests-is_nested.ensures in
-    table_opened c.args.self.now c.intern.new.self c.args.around c.args.typ c.args.name.now c.args.spot c.intern.ensures.keeps
-    c.in-Some.text c.in-Some.ensures.numbers c.push.new.self _ c.in-Ok.number
-    (λ i. record { parent = c.args.around; typ = c.args.typ; name = c.in-Some.text; line_number = c.args.spot.row; is_nested = e i }) c.in-Ok.ensures
 
 pub returns-in-Err : goal.returns-in-Err
 returns-in-Err c =
-    let m₁ = c.intern.new.self in
-    let counts = c.counts-texts.ensures in
-    table_lacks c.args.self.now m₁ c.args.around c.args.typ c.args.name.now c.args.spot c.intern.ensures.keeps
-    c.in-Some.text c.in-Some.ensures.numbers c.push.new.self _ c.lack-in-Err.result c.in-Err.field-0
-    c.truncate.new.self c.truncate-in-Err.new.self c.counts-texts.result.texts c.counts-texts.result.bytes
-    c.lack-in-Err.ensures c.in-Err.ensures (ap (λ n. n.texts) counts) (ap (λ n. n.bytes) counts) c.truncate.ensures.list c.truncate-in-Err.ensures.list
-    (same_truncated m₁.texts c.truncate.new.self c.counts-texts.result.texts c.truncate.ensures.whole)
-    (same_truncated m₁.bytes c.truncate-in-Err.new.self c.counts-texts.result.bytes c.truncate-in-Err.ensures.whole)
+    let m = c.args.self.now in
+    let alone : text_of c.from.result ≡ c.args.name.now = ap₂ under c.from.ensures.0 (ap (λ b. b.now) c.from.ensures.1) in
+    let P : List ℕ → Type 0 = λ text. Numbers (held m) (interned (room_of m) (held m) text) (Ok c.in-Ok.text) (held c.intern.new.self) in
+    table_lacks m c.intern.new.self c.take_back.new.self c.args.around c.args.typ c.args.name.now c.args.spot c.intern.ensures.keeps
+    c.in-Ok.text (subst P alone c.in-Ok.ensures.numbers) c.push.new.self _ c.in-Err.field-0 c.in-Err.ensures
+    c.into-in-Err.result c.counts-counts.result c.into-in-Err.ensures c.counts-counts.ensures c.take_back.ensures.held c.take_back.ensures.keeps

@@ -1,16 +1,18 @@
+use Rattle.std.proofs.Common.{sym, ◌∙◌}
+use Rattle.std.proofs.lemmas.Bool.{true≢false}
+use Rattle.treefile.proofs.Kept.{sound_tree}
 use Rattle.treefile.proofs.Shows.{kind_known, node_shown}
-use Rattle.treefile.proofs.Sound.{sound_kept}
 use Rattle.treefile.proofs.tree.Tree.node_at.Goals as goal
 
-pub case_of-requires : goal.case_of-requires
-case_of-requires c =
-    let self = c.args.self.now in
-    let s = sound_kept self.file.now self.trailer self.checked self.read in
-    kind_known self.file.now self.trailer c.args.i (s.records c.args.i c.requires)
+pub unreachable-requires : goal.unreachable-requires
+unreachable-requires c =
+    let areas = c.args.self.now.areas in
+    true≢false (sym (kind_known areas.file.now areas.trailer c.args.i ((sound_tree c.args.self.now).records c.args.i c.requires)) ∙ c.in_default.ensures)
 
 pub returns : goal.returns
 returns c =
-    let self = c.args.self.now in
-    let s = sound_kept self.file.now self.trailer self.checked self.read in
-    rw (c.row_at.ensures, c.case_of.ensures, c.word_at-number.ensures, c.places_after-places.ensures)
-    (node_shown self.file.now self.trailer s c.args.i c.requires)
+    let areas = c.args.self.now.areas in
+    let bs = areas.file.now in
+    let t = areas.trailer in
+    let i = c.args.i in
+    rw (c.row.ensures, c.case_of.ensures, c.places_after.ensures, c.in-Some.ensures) (node_shown bs t (sound_tree c.args.self.now) i c.requires)
