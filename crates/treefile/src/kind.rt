@@ -62,6 +62,7 @@ impl TryFrom<u8> for Kind {
 
     ghost try_from_gives = { Numbered };
 
+    #[inline(always)]
     fn try_from(number: u8) -> Result<Self, UnknownKind> {
         Ok(match number {
             0 => Kind::Absent,

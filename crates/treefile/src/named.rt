@@ -22,17 +22,17 @@ impl Kind {
     }
 }
 
-impl Record<'_> {
+impl Record<'_, '_> {
     // Whether a name number is in the index, and its name one that the kind may have.
     fn is_named_well(&self, kind: Kind, n: usize) -> bool
-        ensures { result ≡ (nat_lt n self.now.of.trailer.name_count && dots_ok (number kind) (name_bytes self.now.of.file.now self.now.of.trailer n)) }
+        ensures { result ≡ (nat_lt n self.now.of.now.trailer.name_count && dots_ok (number kind) (name_bytes self.now.of.now.file.now self.now.of.now.trailer n)) }
     {
         n < self.of.trailer.name_count && kind.dots_ok(self.of.name_bytes(n))
     }
 
     // Whether its kind may have its name number.
     fn naming_ok(&self, kind: Kind) -> bool
-        ensures { result ≡ naming_ok self.now.of.file.now self.now.of.trailer (number kind) (name_number self.now.of.file.now self.now.of.trailer self.now.at) }
+        ensures { result ≡ naming_ok self.now.of.now.file.now self.now.of.now.trailer (number kind) (name_number self.now.of.now.file.now self.now.of.now.trailer self.now.at) }
     {
         match self.name_number() {
             None => kind.naming() != Naming::Always,
@@ -42,7 +42,7 @@ impl Record<'_> {
 
     // Whether its form is 0, or 1 in an AnnAssign.
     fn form_ok(&self, kind: Kind) -> bool
-        ensures { result ≡ form_ok (number kind) (form_at self.now.of.file.now self.now.of.trailer self.now.at) }
+        ensures { result ≡ form_ok (number kind) (form_at self.now.of.now.file.now self.now.of.now.trailer self.now.at) }
     {
         match self.form() {
             0 => true,
@@ -53,7 +53,7 @@ impl Record<'_> {
 
     // Whether it has a known kind, and a form, a name and a row that it may have.
     fn is_ok(&self) -> bool
-        ensures { result ≡ record_ok self.now.of.file.now self.now.of.trailer self.now.at }
+        ensures { result ≡ record_ok self.now.of.now.file.now self.now.of.now.trailer self.now.at }
     {
         match self.kind() {
             Some(kind) => {
@@ -70,7 +70,7 @@ impl Areas<'_> {
         ensures { result ≡ records_check self.now.file.now self.now.trailer }
     {
         for at in 0..self.trailer.record_count {
-            let record = Record { of: *self, at };
+            let record = Record { of: self, at };
             if !record.is_ok() {
                 return Err(record.fault(TreeReason::Record));
             }

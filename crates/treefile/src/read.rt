@@ -29,21 +29,21 @@ impl<'a> Areas<'a> {
         if at >= self.trailer.record_count {
             return at;
         }
-        at + Record { of: *self, at }.size()
+        at + Record { of: self, at }.size()
     }
 }
 
-impl<'a> Record<'a> {
+impl<'t, 'a> Record<'t, 'a> {
     // Its name, as a part of the file; nothing where its number is no name's.
     fn name(&self) -> &'a [u8]
-        ensures { result.now ≡ name_or self.now.of.file.now self.now.of.trailer (name_number self.now.of.file.now self.now.of.trailer self.now.at) }
+        ensures { result.now ≡ name_or self.now.of.now.file.now self.now.of.now.trailer (name_number self.now.of.now.file.now self.now.of.now.trailer self.now.at) }
     {
         self.maybe_name().unwrap_or_default()
     }
 
     // Its name, if it has one.
     fn maybe_name(&self) -> Option<&'a [u8]>
-        ensures { held result ≡ maybe_name self.now.of.file.now self.now.of.trailer (name_number self.now.of.file.now self.now.of.trailer self.now.at) }
+        ensures { held result ≡ maybe_name self.now.of.now.file.now self.now.of.now.trailer (name_number self.now.of.now.file.now self.now.of.now.trailer self.now.at) }
     {
         let n = self.name_number()?;
         Some(self.of.name(n))
@@ -51,7 +51,7 @@ impl<'a> Record<'a> {
 
     // The places after its node.
     fn places_after(&self) -> Places
-        ensures { result ≡ places_after self.now.of.file.now self.now.of.trailer self.now.at }
+        ensures { result ≡ places_after self.now.of.now.file.now self.now.of.now.trailer self.now.at }
     {
         let first = self.at + 1;
         let second = self.of.after(first);
@@ -71,7 +71,7 @@ impl<'a> Record<'a> {
 
     // The case of a kind, with its form and name and these places.
     fn case_of(&self, kind: Kind, at: Places) -> Case<'a>
-        ensures { said_by result ≡ said_of self.now.of.file.now self.now.of.trailer (number kind) (form_at self.now.of.file.now self.now.of.trailer self.now.at) (name_number self.now.of.file.now self.now.of.trailer self.now.at) at }
+        ensures { said_by result ≡ said_of self.now.of.now.file.now self.now.of.now.trailer (number kind) (form_at self.now.of.now.file.now self.now.of.now.trailer self.now.at) (name_number self.now.of.now.file.now self.now.of.now.trailer self.now.at) at }
     {
         match kind {
             Kind::Absent => Case::Absent,
@@ -216,14 +216,15 @@ impl<'a> Tree<'a> {
         ensures { shown result ≡ node_at self.now.areas.file.now self.now.areas.trailer i }
     {
         let record = Record {
-            of: self.areas,
+            of: &self.areas,
             at: i,
         };
+        let places = record.places_after();
         let Some(kind) = record.kind() else {
             unreachable()
         };
         Node {
-            case: record.case_of(kind, record.places_after()),
+            case: record.case_of(kind, places),
             row: record.row(),
         }
     }

@@ -15,10 +15,10 @@ const NONE: u32 = 0xffff_ffff;
 
 // A record of a file, by its number.
 #[derive(Clone, Copy, Drop)]
-pub(crate) struct Record<'a> {
-    pub(crate) of: Areas<'a>,
+pub(crate) struct Record<'t, 'a> {
+    pub(crate) of: &'t Areas<'a>,
     pub(crate) at: usize,
-    ghost there: { at < of.trailer.record_count },
+    ghost there: { at < of.now.trailer.record_count },
 }
 
 impl Areas<'_> {
@@ -32,45 +32,46 @@ impl Areas<'_> {
     }
 }
 
-impl<'a> Record<'a> {
+impl<'t, 'a> Record<'t, 'a> {
     // Where it begins.
     fn place(&self) -> usize
-        ensures value { result ≡ record_place self.now.of.trailer self.now.at }
-        ensures within { result + 36 ≤ length self.now.of.file.now }
+        ensures value { result ≡ record_place self.now.of.now.trailer self.now.at }
+        ensures within { result + 36 ≤ length self.now.of.now.file.now }
     {
         self.of.record_place(self.at)
     }
 
     // Its kind; none where its number is no kind's.
+    #[inline(always)]
     pub(crate) fn kind(&self) -> Option<Kind>
-        ensures { MatchOption result (known (kind_at self.now.of.file.now self.now.of.trailer self.now.at) ≡ false) (λ kind. number kind ≡ kind_at self.now.of.file.now self.now.of.trailer self.now.at) }
+        ensures { MatchOption result (known (kind_at self.now.of.now.file.now self.now.of.now.trailer self.now.at) ≡ false) (λ kind. number kind ≡ kind_at self.now.of.now.file.now self.now.of.now.trailer self.now.at) }
     {
         Kind::try_from(self.of.file[self.place()]).ok()
     }
 
     // Whether it is of this kind.
     pub(crate) fn is(&self, kind: Kind) -> bool
-        ensures { result ≡ (kind_at self.now.of.file.now self.now.of.trailer self.now.at == number kind) }
+        ensures { result ≡ (kind_at self.now.of.now.file.now self.now.of.now.trailer self.now.at == number kind) }
     {
         self.of.file[self.place()] == kind as u8
     }
 
     pub(crate) fn form(&self) -> u8
-        ensures { result ≡ form_at self.now.of.file.now self.now.of.trailer self.now.at }
+        ensures { result ≡ form_at self.now.of.now.file.now self.now.of.now.trailer self.now.at }
     {
         self.of.file[self.place() + 1]
     }
 
     // Whether the two bytes after its form are zero.
     pub(crate) fn has_filler(&self) -> bool
-        ensures { result ≡ filler_ok self.now.of.file.now self.now.of.trailer self.now.at }
+        ensures { result ≡ filler_ok self.now.of.now.file.now self.now.of.now.trailer self.now.at }
     {
         let place = self.place();
         self.of.file[place + 2] == 0 && self.of.file[place + 3] == 0
     }
 
     pub(crate) fn size(&self) -> usize
-        ensures value { result ≡ size_at self.now.of.file.now self.now.of.trailer self.now.at }
+        ensures value { result ≡ size_at self.now.of.now.file.now self.now.of.now.trailer self.now.at }
         ensures fits { result < 2 ^ 32 }
     {
         word_at(self.of.file, self.place() + 4) as usize
@@ -78,7 +79,7 @@ impl<'a> Record<'a> {
 
     // The number of its name, if it has one.
     pub(crate) fn name_number(&self) -> Option<usize>
-        ensures { result ≡ (let n = name_number self.now.of.file.now self.now.of.trailer self.now.at in cond (n == 0xffff_ffff) None (Some n)) }
+        ensures { result ≡ (let n = name_number self.now.of.now.file.now self.now.of.now.trailer self.now.at in cond (n == 0xffff_ffff) None (Some n)) }
     {
         match word_at(self.of.file, self.place() + 8) {
             NONE => None,
@@ -87,14 +88,14 @@ impl<'a> Record<'a> {
     }
 
     pub(crate) fn row(&self) -> u32
-        ensures { result ≡ row_at self.now.of.file.now self.now.of.trailer self.now.at }
+        ensures { result ≡ row_at self.now.of.now.file.now self.now.of.now.trailer self.now.at }
     {
         word_at(self.of.file, self.place() + 12)
     }
 
     // A fault of its node.
     pub(crate) fn fault(&self, reason: TreeReason) -> TreeFault
-        ensures { result ≡ fault_of reason self.now.at (row_at self.now.of.file.now self.now.of.trailer self.now.at) }
+        ensures { result ≡ fault_of reason self.now.at (row_at self.now.of.now.file.now self.now.of.now.trailer self.now.at) }
     {
         TreeFault::new(reason, self.at as u32, self.row())
     }

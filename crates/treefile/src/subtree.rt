@@ -9,27 +9,27 @@ use crate::record::Record;
 
 // A node whose subtree lies among the records.
 #[derive(Clone, Copy, Drop)]
-pub(crate) struct Subtree<'a> {
-    pub(crate) root: Record<'a>,
-    ghost some: { 1 ≤ size_at root.of.file.now root.of.trailer root.at },
-    ghost within: { end_of root.of.file.now root.of.trailer root.at ≤ root.of.trailer.record_count },
+pub(crate) struct Subtree<'t, 'a> {
+    pub(crate) root: Record<'t, 'a>,
+    ghost some: { 1 ≤ size_at root.of.now.file.now root.of.now.trailer root.at },
+    ghost within: { end_of root.of.now.file.now root.of.now.trailer root.at ≤ root.of.now.trailer.record_count },
 }
 
 // The nodes that stand one after the other from `next` up to `end`, at most `left` of them.
 #[derive(Clone, Copy, Drop)]
-pub(crate) struct Children<'a> {
-    of: Areas<'a>,
+pub(crate) struct Children<'t, 'a> {
+    of: &'t Areas<'a>,
     left: usize,
     next: usize,
     end: usize,
-    ghost within: { end ≤ of.trailer.record_count },
+    ghost within: { end ≤ of.now.trailer.record_count },
 }
 
-impl<'a> Record<'a> {
+impl<'t, 'a> Record<'t, 'a> {
     // The subtree of its node, if the node has a size, and ends at or before an end.
-    pub(crate) fn subtree(&self, end: usize) -> Option<Subtree<'a>>
-        requires { end ≤ self.now.of.trailer.record_count }
-        ensures within { is_some result ≡ within self.now.of.file.now self.now.of.trailer end self.now.at }
+    pub(crate) fn subtree(&self, end: usize) -> Option<Subtree<'t, 'a>>
+        requires { end ≤ self.now.of.now.trailer.record_count }
+        ensures within { is_some result ≡ within self.now.of.now.file.now self.now.of.now.trailer end self.now.at }
         ensures root { IfSome result (λ tree. tree.root ≡ self.now) }
     {
         let size = self.size();
@@ -41,17 +41,17 @@ impl<'a> Record<'a> {
     }
 }
 
-impl<'a> Subtree<'a> {
+impl<'t, 'a> Subtree<'t, 'a> {
     // Where it ends.
     pub(crate) fn end(&self) -> usize
-        ensures { result ≡ end_of self.now.root.of.file.now self.now.root.of.trailer self.now.root.at }
+        ensures { result ≡ end_of self.now.root.of.now.file.now self.now.root.of.now.trailer self.now.root.at }
     {
         self.root.at + self.root.size()
     }
 
     // The children of its root.
-    pub(crate) fn children(&self) -> Children<'a>
-        ensures { places result.of.file.now result.of.trailer result.left result.next result.end ≡ child_places self.now.root.of.file.now self.now.root.of.trailer self.now.root.at }
+    pub(crate) fn children(&self) -> Children<'t, 'a>
+        ensures { places result.of.now.file.now result.of.now.trailer result.left result.next result.end ≡ child_places self.now.root.of.now.file.now self.now.root.of.now.trailer self.now.root.at }
     {
         Children {
             of: self.root.of,
@@ -62,14 +62,14 @@ impl<'a> Subtree<'a> {
     }
 }
 
-impl<'a> Iterator for Children<'a> {
-    type Item = Record<'a>;
+impl<'t, 'a> Iterator for Children<'t, 'a> {
+    type Item = Record<'t, 'a>;
 
-    ghost next_gives = { YieldsFirstBy (λ r. place r.of.file.now r.of.trailer r.at) (λ c. places c.of.file.now c.of.trailer c.left c.next c.end) };
+    ghost next_gives = { YieldsFirstBy (λ r. place r.of.now.file.now r.of.now.trailer r.at) (λ c. places c.of.now.file.now c.of.now.trailer c.left c.next c.end) };
 
-    ghost remaining = { item_count (λ c. kids c.of.file.now c.of.trailer c.left c.next c.end) };
+    ghost remaining = { item_count (λ c. kids c.of.now.file.now c.of.now.trailer c.left c.next c.end) };
 
-    fn next(&mut self) -> Option<Record<'a>> {
+    fn next(&mut self) -> Option<Record<'t, 'a>> {
         if self.left == 0 || self.next >= self.end {
             return None;
         }

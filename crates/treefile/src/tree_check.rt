@@ -11,10 +11,10 @@ use crate::subtree::Subtree;
 // The most levels of a tree, its root's among them.
 const LEVELS: u32 = 200;
 
-impl Subtree<'_> {
+impl Subtree<'_, '_> {
     // The fault of its root, which stands too deep: its slots are tested first.
     fn deep_fault(&self) -> TreeFault
-        ensures { Err result ≡ node_check self.now.root.of.file.now self.now.root.of.trailer 0 self.now.root.at }
+        ensures { Err result ≡ node_check self.now.root.of.now.file.now self.now.root.of.now.trailer 0 self.now.root.at }
     {
         if !self.fits() {
             return self.root.fault(TreeReason::Slots);
@@ -24,9 +24,9 @@ impl Subtree<'_> {
 
     // The first fault in it, with so many levels left for its root and what is below it.
     fn check(&self, levels: u32) -> Result<(), TreeFault>
-        requires tiled { kind_at self.now.root.of.file.now self.now.root.of.trailer self.now.root.at ≡ 1 → Tiled self.now.root.of.file.now self.now.root.of.trailer self.now.root.at }
+        requires tiled { kind_at self.now.root.of.now.file.now self.now.root.of.now.trailer self.now.root.at ≡ 1 → Tiled self.now.root.of.now.file.now self.now.root.of.now.trailer self.now.root.at }
         requires some { 0 < levels }
-        ensures { result ≡ node_check self.now.root.of.file.now self.now.root.of.trailer levels self.now.root.at }
+        ensures { result ≡ node_check self.now.root.of.now.file.now self.now.root.of.now.trailer levels self.now.root.at }
     {
         if !self.fits() {
             return Err(self.root.fault(TreeReason::Slots));
@@ -50,7 +50,7 @@ impl Areas<'_> {
         match self.root() {
             Some(root) => root.check(LEVELS),
             None => {
-                let root = Record { of: *self, at: 0 };
+                let root = Record { of: self, at: 0 };
                 Err(root.fault(TreeReason::Slots))
             }
         }

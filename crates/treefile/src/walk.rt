@@ -9,12 +9,12 @@ use crate::subtree::Subtree;
 use crate::tree::Tree;
 use std::alloc::{AllocError, Global};
 
-impl Subtree<'_> {
+impl Subtree<'_, '_> {
     // Appends its nodes in preorder, the root at a depth.
     fn push_nodes(&self, out: &mut Vec<Stand>, depth: usize) -> Result<(), AllocError>
         requires depth { depth ≤ 200 }
-        requires passes { Passes self.now.root.of.file.now self.now.root.of.trailer (201 - depth) self.now.root.at }
-        ensures { OnOk result (out.new.items ≡ out.old.items ++ preorder self.now.root.of.file.now self.now.root.of.trailer (201 - depth) depth self.now.root.at) }
+        requires passes { Passes self.now.root.of.now.file.now self.now.root.of.now.trailer (201 - depth) self.now.root.at }
+        ensures { OnOk result (out.new.items ≡ out.old.items ++ preorder self.now.root.of.now.file.now self.now.root.of.now.trailer (201 - depth) depth self.now.root.at) }
     {
         out.push(Stand {
             node: self.root.at,
@@ -36,7 +36,7 @@ impl Tree<'_> {
     {
         let mut out = Vec::new(heap);
         let root = Record {
-            of: self.areas,
+            of: &self.areas,
             at: 0,
         };
         let tree = Subtree { root };

@@ -16,7 +16,7 @@ pub returns-then-not-fits_list : goal.returns-then-not-fits_list
 returns-then-not-fits_list c =
     let root = c.args.self.now.root in
     let a = letter c.args.slot in
-    let fit = elements_fit root.of.file.now root.of.trailer a (end_of root.of.file.now root.of.trailer root.at) in
+    let fit = elements_fit root.of.now.file.now root.of.now.trailer a (end_of root.of.now.file.now root.of.now.trailer root.at) in
     let x = c.loop-child.invariant.2 in
     let n = left_next _ _ x c.in-Some.ensures.steps in
     let here = at_place _ _ (λ bs t end p. within bs t end p && element a (kind_at bs t p)) _ n.number _ _ _ n.here c.end-end.ensures c.if-not-fits_list.ensures in
@@ -26,7 +26,7 @@ pub loop-child-preserved : goal.loop-child-preserved
 loop-child-preserved c =
     let root = c.args.self.now.root in
     let a = letter c.args.slot in
-    let fit = elements_fit root.of.file.now root.of.trailer a (end_of root.of.file.now root.of.trailer root.at) in
+    let fit = elements_fit root.of.now.file.now root.of.now.trailer a (end_of root.of.now.file.now root.of.now.trailer root.at) in
     let x = c.loop-child.invariant.2 in
     let n = left_next _ _ x c.in-Some.ensures.steps in
     let here = at_place _ _ (λ bs t end p. within bs t end p && element a (kind_at bs t p)) _ n.number _ _ _ n.here c.end-end.ensures c.if-not-fits_list.ensures in

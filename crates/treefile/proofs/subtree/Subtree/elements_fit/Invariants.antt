@@ -8,8 +8,8 @@ use Rattle.treefile.proofs.subtree.Subtree.elements_fit.Given as goal
 abbrev pub invariant-loop-child : goal.invariant-loop-child
 invariant-loop-child l =
     let c = l.child-iterator in
-    let bs = l.self.root.of.file.now in
-    let t = l.self.root.of.trailer in
+    let bs = l.self.root.of.now.file.now in
+    let t = l.self.root.of.now.trailer in
     let fit = elements_fit bs t (letter l.slot) (end_of bs t l.self.root.at) in
     (goal.iterator-loop-child).can_next c × (goal.iterator-loop-child).is_finite c
-    × Left bs t (places c.of.file.now c.of.trailer c.left c.next c.end) (λ ps. fit ps ≡ fit (children bs t l.self.root.at))
+    × Left bs t (places c.of.now.file.now c.of.now.trailer c.left c.next c.end) (λ ps. fit ps ≡ fit (children bs t l.self.root.at))

@@ -8,7 +8,7 @@ use Rattle.treefile.proofs.subtree.Subtree.fits.Goals as goal
 
 pub loop-child-preserved : goal.loop-child-preserved
 loop-child-preserved c =
-    let of = c.args.self.now.root.of in
+    let of = c.args.self.now.root.of.now in
     let x = c.loop-child.invariant.2 in
     let n = left_next of.file.now of.trailer x c.in-Some.ensures.steps in (
       tt,
@@ -24,5 +24,5 @@ loop-child-preserved c =
 pub returns : goal.returns
 returns c =
     let root = c.args.self.now.root in
-    c.is_empty.ensures ∙ slots_end root.of.file.now root.of.trailer _ c.loop-child.slots.now ∙ left_end root.of.file.now root.of.trailer c.loop-child.invariant.2 c.in-None.ensures.steps.0
-    ∙ sym (fits_slots root.of.file.now root.of.trailer root.at (grind (arith, nat_tests, c.if-is.ensures)))
+    c.is_empty.ensures ∙ slots_end root.of.now.file.now root.of.now.trailer _ c.loop-child.slots.now ∙ left_end root.of.now.file.now root.of.now.trailer c.loop-child.invariant.2 c.in-None.ensures.steps.0
+    ∙ sym (fits_slots root.of.now.file.now root.of.now.trailer root.at (grind (arith, nat_tests, c.if-is.ensures)))

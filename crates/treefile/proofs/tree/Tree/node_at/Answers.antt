@@ -15,4 +15,4 @@ returns c =
     let bs = areas.file.now in
     let t = areas.trailer in
     let i = c.args.i in
-    rw (c.row.ensures, c.case_of.ensures, c.places_after.ensures, c.in-Some.ensures) (node_shown bs t (sound_tree c.args.self.now) i c.requires)
+    rw (c.row.ensures, c.case_of.ensures, c.places_after-places.ensures, c.in-Some.ensures) (node_shown bs t (sound_tree c.args.self.now) i c.requires)
