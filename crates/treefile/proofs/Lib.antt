@@ -1,6 +1,7 @@
 pub mod Verdicts
 pub mod Firsts
 pub mod Table
+pub mod NameBytes
 pub mod Steps
 pub mod Sorts
 pub mod Children

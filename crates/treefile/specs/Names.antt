@@ -1,5 +1,5 @@
 -- The name index of a tree file.
-use Rattle.std.specs.Prelude.{ℕ, ◌+◌, ◌*◌, Bool, ◌&&◌, List, take, drop, nat_le}
+use Rattle.std.specs.Prelude.{◌≡◌, ℕ, ◌+◌, ◌*◌, ◌≤◌, Bool, ◌&&◌, List, length, take, drop, nat_le}
 use Rattle.treefile.specs.declared.fault.TreeReason.TheVariants.{Name}
 use Rattle.treefile.specs.declared.trailer.Trailer.{Trailer}
 use Rattle.treefile.specs.Faults.{Verdict, fault_of}
@@ -27,3 +27,9 @@ name_ok bs t n =
 -- the first name that is not so; its number stands in the fault's node
 abbrev pub names_check : List ℕ → Trailer → Verdict
 names_check bs t = refused_at (λ n. fault_of Name n 0) (first_bad (name_ok bs t) 0 t.name_count)
+
+-- a name is whole: it has a byte or more, as many as the index says, and they end before the trailer
+pub record Whole (bs : List ℕ) (t : Trailer) (n : ℕ) : Type 0 where
+  pub some : 1 ≤ name_length bs t n
+  pub all : length (name_bytes bs t n) ≡ name_length bs t n
+  pub within : name_place bs t n + name_length bs t n ≤ trailer_start bs

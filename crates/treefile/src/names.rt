@@ -1,6 +1,7 @@
 // The name index of a tree file.
-ghost use Rattle.std.specs.Prelude.{◌≡◌, ◌^◌, ◌<◌};
+ghost use Rattle.std.specs.Prelude.{◌≡◌, ◌+◌, ◌^◌, ◌<◌, ◌≤◌, true, length};
 ghost use Rattle.treefile.specs.Names.{name_bytes, name_length, name_ok, name_place, names_check};
+ghost use Rattle.treefile.specs.Trailer.{trailer_start};
 
 use crate::areas::Areas;
 use crate::fault::{TreeFault, TreeReason};
@@ -42,10 +43,12 @@ impl<'a> Areas<'a> {
         length >= 1 && length <= LONGEST && place + length <= self.file.len() - TRAILER
     }
 
-    // The bytes of a name, as a part of the file, or as many of them as the file has.
+    // The bytes of a name, as a part of the file, or as many of them as the file has: all of them where the name is in order.
     pub(crate) fn name_bytes(&self, n: usize) -> &'a [u8]
         requires { n < self.now.trailer.name_count }
-        ensures { result.now ≡ name_bytes self.now.file.now self.now.trailer n }
+        ensures value { result.now ≡ name_bytes self.now.file.now self.now.trailer n }
+        ensures whole { name_ok self.now.file.now self.now.trailer n ≡ true → length result.now ≡ name_length self.now.file.now self.now.trailer n }
+        ensures within { name_ok self.now.file.now self.now.trailer n ≡ true → name_place self.now.file.now self.now.trailer n + length result.now ≤ trailer_start self.now.file.now }
     {
         let Entry { place, length } = self.entry(n);
         let rest = &self.file[place.min(self.file.len())..];
