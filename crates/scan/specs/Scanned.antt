@@ -1,17 +1,23 @@
 -- What a call that scans a node answers and leaves.
-use Rattle.std.specs.Prelude.{ℕ, Bool, ◌&&◌, ◌||◌, List, Result, ◌==◌, nat_le}
+use Rattle.std.specs.Prelude.{ℕ, Bool, cond, ◌&&◌, ◌||◌, List, [], Some, None, Option, Result, ◌==◌, nat_le, nat_lt}
 use Rattle.symbols.specs.declared.fault.Fault.{Fault}
 use Rattle.store.specs.declared.cursor.Cursor.{Cursor}
 use Rattle.store.specs.declared.memory.Memory.{Memory}
 use Rattle.store.specs.Mangling.{class_of}
 use Rattle.treefile.specs.declared.trailer.Trailer.{Trailer}
+use Rattle.treefile.specs.Spelling.{label_at}
 use Rattle.treefile.specs.Trees.{Tree}
 use Rattle.scan.specs.declared.context.Setting.{Setting}
 use Rattle.scan.specs.Enterings.{part_of}
-use Rattle.scan.specs.Parts.{Part}
+use Rattle.scan.specs.Parts.{bytes_of, Part}
 use Rattle.scan.specs.Places.{Here}
 use Rattle.scan.specs.Runs.{CarriesOut}
 use Rattle.scan.specs.Scans.{Scan}
+
+-- the name of the class whose node is given; a node that is no class's has none
+abbrev pub class_in : List ℕ → Trailer → Option ℕ → List ℕ
+class_in bs t (Some i) = cond (nat_lt i t.record_count && (label_at bs t i).kind == 19) (bytes_of (label_at bs t i).name) []
+class_in bs t None = []
 
 -- some tree stands at place i
 abbrev pub Has : List ℕ → Trailer → ℕ → Type 0
