@@ -1,7 +1,8 @@
 -- The rule of the slot table, by one test over its 96 rows, which is computed.
 use Rattle.std.proofs.Common.{◌≡◌, ℕ, zero, suc, ◌+◌, ◌<◌, ◌≤◌, Bool, true, false, not, ◌&&◌, ◌||◌, eqb, ltb, leb, List, [], ◌∷◌, length, get_or, filter, sym, refl, ap, ◌∙◌, ⊎_elim, arith}
 use Rattle.std.proofs.lemmas.List.{get_or_past}
-use Rattle.std.proofs.lemmas.Bool.{cases_lt}
+use Rattle.std.proofs.lemmas.List.Elements.{All-get_or, filter_passes}
+use Rattle.std.proofs.lemmas.Bool.{cases_lt, true≢false}
 use Rattle.std.proofs.lemmas.Bool.Decides.{Decides-below_and, nat_tests}
 use Rattle.treefile.specs.Kinds.{known}
 use Rattle.treefile.specs.Shown.{arity}
@@ -45,6 +46,11 @@ table_rule =
       unused = λ k c h i e. let t = cell_at k c h i in grind (arith, nat_tests, t);
     }
 
+-- within the table a column holds the slot of its number
+pub in_table : (k c : ℕ) → k < 96 → c < 6 → slot k c ≡ get_or (columns k) c 0
+unfolding cell
+in_table k c h i = let t = cell_at k c h i in grind (arith, nat_tests, t)
+
 -- outside it a kind has no slot
 pub past_table : (k c : ℕ) → (k < 96 → 6 ≤ c) → length (columns k) ≤ c
 unfolding columns table
@@ -53,6 +59,18 @@ past_table k c h =
     (λ (g : 96 ≤ k).
     let e : columns k ≡ [] = ap (filter (λ a. ltb 0 a)) (get_or_past table k [] g) in omega (arith, ap length e))
     (cases_lt k 96)
+
+-- in each slot something stands
+stands : (k c : ℕ) → c < length (columns k) → ltb 0 (get_or (columns k) c 0) ≡ true
+unfolding columns
+stands k c h =
+    All-get_or (λ x. ltb 0 x ≡ true) (columns k) c 0 h (filter_passes (λ x. ltb 0 x) (get_or table k []))
+
+-- so an empty column comes after all slots
+pub empty_ends : (k c : ℕ) → get_or (columns k) c 0 ≡ 0 → length (columns k) ≤ c
+empty_ends k c e =
+    ⊎_elim (λ (h : c < length (columns k)). let t = stands k c h in let z : ◌≡◌ {A = Bool} true false = grind (arith, nat_tests, t) in absurd (true≢false z)) (λ h. h)
+    (cases_lt c (length (columns k)))
 
 no_slots : (k : ℕ) → 96 ≤ k → arity k ≡ 0
 no_slots k h = grind (arith, nat_tests, h)
