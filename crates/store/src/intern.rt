@@ -52,6 +52,9 @@ impl Memory<'_> {
     }
 
     // The number of a name's text, which is added where it is not held; or nothing, where it does not fit.
+    //
+    // Always inlined, so that where the text has just been sought the compiler need not seek it again.
+    #[inline(always)]
     pub(crate) fn intern(&mut self, name: &Mangled<'_>) -> Result<usize, NoRoom>
         ensures numbers { Numbers (held self.old) (interned (room_of self.old) (held self.old) (text_of name.now)) result (held self.new) }
         ensures keeps { Keeps self.old self.new }

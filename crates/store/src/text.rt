@@ -18,8 +18,8 @@ impl Text {
     fn spelling<'b>(&self, bytes: &'b [u8]) -> &'b [u8]
         ensures { result.now ≡ spelled bytes.now self.now }
     {
-        let rest = bytes.get(self.start..).unwrap_or_default();
-        rest.get(..self.len).unwrap_or(rest)
+        let rest = &bytes[self.start.min(bytes.len())..];
+        &rest[..self.len.min(rest.len())]
     }
 }
 
