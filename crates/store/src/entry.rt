@@ -12,14 +12,14 @@ use symbols::usage::SymbolUsage;
 
 // A name in a role in a table, at a spot.
 #[derive(Clone, Copy, Drop)]
-pub(crate) struct Entry<'a> {
+pub(crate) struct Entry<'c, 'n> {
     pub(crate) table: usize,
     pub(crate) role: SymbolUsage,
-    pub(crate) name: Mangled<'a>,
+    pub(crate) name: Mangled<'c, 'n>,
     pub(crate) spot: Spot,
 }
 
-impl Entry<'_> {
+impl Entry<'_, '_> {
     // The symbol that is new in the table, whose name's text has this number.
     pub(crate) fn new_symbol(&self, text: usize) -> Symbol
         ensures { result ≡ entered self.now.role self.now.table text self.now.spot }

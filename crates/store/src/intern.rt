@@ -13,7 +13,7 @@ use ordered::NoRoom;
 
 impl Memory<'_> {
     // The number of a name's text, if it is held.
-    pub(crate) fn find_text(&self, name: &Mangled<'_>) -> Option<usize>
+    pub(crate) fn find_text(&self, name: &Mangled<'_, '_>) -> Option<usize>
         ensures { result ≡ number_of (held self.now) (text_of name.now) }
     {
         self.texts.find(self.bytes.as_slice(), name)
@@ -27,7 +27,7 @@ impl Memory<'_> {
     }
 
     // The place of the symbol of a name in a table, if there is one.
-    pub fn find_name(&self, table: usize, name: &Mangled<'_>) -> Option<usize>
+    pub fn find_name(&self, table: usize, name: &Mangled<'_, '_>) -> Option<usize>
         ensures { result ≡ stands_at (held self.now) table (text_of name.now) }
     {
         let text = self.find_text(name)?;
@@ -35,7 +35,7 @@ impl Memory<'_> {
     }
 
     // Adds a text, and answers its number; or nothing, where its record or its bytes do not fit.
-    fn add_text(&mut self, name: &Mangled<'_>) -> Result<usize, NoRoom>
+    fn add_text(&mut self, name: &Mangled<'_, '_>) -> Result<usize, NoRoom>
         ensures numbers { Numbers (held self.old) (added (room_of self.old) (held self.old) (text_of name.now)) result (held self.new) }
         ensures keeps { Keeps self.old self.new }
     {
@@ -55,7 +55,7 @@ impl Memory<'_> {
     //
     // Always inlined, so that where the text has just been sought the compiler need not seek it again.
     #[inline(always)]
-    pub(crate) fn intern(&mut self, name: &Mangled<'_>) -> Result<usize, NoRoom>
+    pub(crate) fn intern(&mut self, name: &Mangled<'_, '_>) -> Result<usize, NoRoom>
         ensures numbers { Numbers (held self.old) (interned (room_of self.old) (held self.old) (text_of name.now)) result (held self.new) }
         ensures keeps { Keeps self.old self.new }
     {

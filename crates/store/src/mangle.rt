@@ -9,22 +9,22 @@ use ordered::{NoRoom, Ordered};
 
 // A name as it is entered: an underscore, the prefix and the name, or the name alone where the prefix is empty.
 #[derive(Clone, Copy, Drop)]
-pub struct Mangled<'a> {
-    pub prefix: &'a [u8],
-    pub name: &'a [u8],
+pub struct Mangled<'c, 'n> {
+    pub prefix: &'c [u8],
+    pub name: &'n [u8],
 }
 
 // The name alone.
-impl<'a> From<&'a [u8]> for Mangled<'a> {
+impl<'c, 'n> From<&'n [u8]> for Mangled<'c, 'n> {
     ghost from_gives = { λ name mangled. (mangled.prefix.now ≡ []) × (mangled.name ≡ name) };
 
-    fn from(name: &'a [u8]) -> Mangled<'a> {
+    fn from(name: &'n [u8]) -> Mangled<'c, 'n> {
         Mangled { prefix: b"", name }
     }
 }
 
 // `name` as it is entered in a class: where it is private, under the class's name without its leading underscores.
-pub fn mangle_name<'a>(class: &'a [u8], name: &'a [u8]) -> Mangled<'a>
+pub fn mangle_name<'c, 'n>(class: &'c [u8], name: &'n [u8]) -> Mangled<'c, 'n>
     ensures prefix { result.prefix.now ≡ class_part class.now name.now }
     ensures name { result.name.now ≡ name.now }
     ensures text { text_of result ≡ mangled class.now name.now }
@@ -33,7 +33,7 @@ pub fn mangle_name<'a>(class: &'a [u8], name: &'a [u8]) -> Mangled<'a>
     Mangled { prefix, name }
 }
 
-impl Mangled<'_> {
+impl Mangled<'_, '_> {
     // Whether `text` is the name as it is entered.
     pub(crate) fn is_spelled(&self, text: &[u8]) -> bool
         ensures { IsTrue result ↔ (text.now ≡ text_of self.now) }

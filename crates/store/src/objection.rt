@@ -38,7 +38,7 @@ fn misdeclaration(role: SymbolUsage, symbol: Symbol) -> Option<ScanReason>
     too_late(symbol.flags).or(other_way.then_some(ScanReason::GlobalNonlocal))
 }
 
-impl Entry<'_> {
+impl Entry<'_, '_> {
     // Tests the role against what the table has done with the name.
     pub(crate) fn check_again(&self, symbol: Symbol) -> Result<(), ScanFault>
         ensures { result ≡ judged (objection self.now.role symbol) self.now.spot }

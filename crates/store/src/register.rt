@@ -34,7 +34,7 @@ impl Memory<'_> {
     }
 
     // Enters a name once more that its table has at place `i`.
-    fn enter_again(&mut self, i: usize, entry: &Entry<'_>) -> Result<(), Fault>
+    fn enter_again(&mut self, i: usize, entry: &Entry<'_, '_>) -> Result<(), Fault>
         requires { i < length (held self.old).symbols }
         ensures { Does self.old (enter_again (held self.old) entry.now.role entry.now.spot i (objection entry.now.role (slice_index_or (held self.old).symbols i no_symbol))) result self.new }
     {
@@ -47,7 +47,7 @@ impl Memory<'_> {
 
     // Enters a name that is new in its table. Memory is asked for last: for the text, then for the symbol; where there is
     // none for the symbol, the text goes too.
-    fn enter_first(&mut self, entry: &Entry<'_>) -> Result<(), Fault>
+    fn enter_first(&mut self, entry: &Entry<'_, '_>) -> Result<(), Fault>
         ensures { Does self.old (enter_first (room_of self.old) (held self.old) entry.now.table entry.now.role (text_of entry.now.name) entry.now.spot (first_objection entry.now.role (kind_of (held self.old) entry.now.table))) result self.new }
     {
         entry.check_first(self.kind(entry.table))?;
@@ -76,7 +76,7 @@ impl Memory<'_> {
 
     // Enters a name in its table: once more if the table has it, else for the first time.
     #[tactic(auto, unfolding(crate::specs::Enterings::enter))]
-    pub(crate) fn enter_name(&mut self, entry: &Entry<'_>) -> Result<(), Fault>
+    pub(crate) fn enter_name(&mut self, entry: &Entry<'_, '_>) -> Result<(), Fault>
         ensures { Does self.old (enter (room_of self.old) (held self.old) entry.now.table entry.now.role (text_of entry.now.name) entry.now.spot) result self.new }
     {
         match self.find_name(entry.table, &entry.name) {

@@ -24,12 +24,12 @@ impl Text {
 }
 
 // A text is sought by the name that it spells.
-impl Keyed<Mangled<'_>> for Text {
+impl Keyed<Mangled<'_, '_>> for Text {
     ghost key = { λ text bytes. spelled bytes text };
 
     ghost asked = { λ name. text_of name };
 
-    fn matches(&self, bytes: &[u8], name: &Mangled<'_>) -> bool {
+    fn matches(&self, bytes: &[u8], name: &Mangled<'_, '_>) -> bool {
         name.is_spelled(self.spelling(bytes))
     }
 }
