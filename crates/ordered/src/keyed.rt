@@ -2,7 +2,7 @@
 ghost use Rattle.std.specs.Prelude.{◌≡◌, ◌↔◌, List, ℕ, IsTrue};
 
 // A record that tells its key, and can be sought by a probe of type `P`. The key may lie in the text bytes, which each
-// search is lent; it is the same whatever the probe.
+// search is lent. Each type of probe says anew what the key is; for probes of one type it is the same.
 pub trait Keyed<P> {
     // the key of a record over the text bytes
     ghost key: { Self → List ℕ → List ℕ };

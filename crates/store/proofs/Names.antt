@@ -1,9 +1,9 @@
 -- What tells a private name, and the class's part of it.
-use Rattle.std.proofs.Common.{◌≡◌, ℕ, true, eqb, List, [], ◌∷◌, ◌++◌, reverse, drop, Decides, sym, ap, ◌∙◌}
+use Rattle.std.proofs.Common.{◌≡◌, ℕ, true, false, cond, eqb, List, [], ◌∷◌, ◌++◌, reverse, drop, codes, Decides, sym, refl, ap, ◌∙◌}
 use Rattle.std.proofs.lemmas.List.{reverse-append, reverse-reverse}
 use Rattle.std.proofs.lemmas.Bool.{and_parts, eqb-true, false≢true}
 use Rattle.std.proofs.lemmas.Bool.Decides.{Decides-like}
-use Rattle.store.specs.Mangling.{underscore, begins_with_two, ends_in_two}
+use Rattle.store.specs.Mangling.{underscore, begins_with_two, ends_in_two, is_private, stripped, under, class_part, mangled}
 
 -- two underscores
 abbrev pub two : List ℕ
@@ -27,3 +27,13 @@ ends_decides xs =
     (λ p. (reverse p.0, sym (reverse-reverse xs) ∙ ap reverse p.1 ∙ reverse-append two p.0))
     (λ p. (reverse p.0, ap reverse p.1 ∙ reverse-append p.0 two))
     (begins_decides (reverse xs))
+
+-- a name under the class's part is the name that is entered
+pub under_class : (class name : List ℕ) → under (class_part class name) name ≡ mangled class name
+under_class class name =
+    elim (is_private name) as (λ v. under (cond v (stripped class) []) name ≡ cond v (under (stripped class) name) name)
+    [ true ↦ refl | false ↦ refl ]
+
+-- `__class__` is not private
+pub mangled_class : (class : List ℕ) → mangled class (codes "__class__") ≡ codes "__class__"
+mangled_class class = refl

@@ -1,6 +1,6 @@
 -- A name under a prefix: its bytes, how many they are, and how a text is told to be them.
-use Rattle.std.proofs.Common.{◌≡◌, ℕ, ◌-◌, ◌<◌, Bool, false, List, [], ◌∷◌, ◌++◌, length, get_or, take, drop, Decides, sym, refl, ap, ◌∙◌, arith}
-use Rattle.std.proofs.lemmas.List.{append_cancel_left}
+use Rattle.std.proofs.Common.{◌≡◌, ℕ, ◌+◌, ◌-◌, ◌<◌, Bool, false, List, [], ◌∷◌, ◌++◌, length, get_or, take, drop, Decides, sym, refl, ap, ◌∙◌, arith}
+use Rattle.std.proofs.lemmas.List.{append_cancel_left, length-append}
 use Rattle.std.proofs.lemmas.Slice.{first_rest}
 use Rattle.std.proofs.lemmas.Bool.{false≢true}
 use Rattle.store.specs.Mangling.{underscore, under}
@@ -9,6 +9,12 @@ use Rattle.store.specs.Mangling.{underscore, under}
 pub under_something : (prefix name : List ℕ) → 0 < length prefix → under prefix name ≡ underscore ∷ (prefix ++ name)
 under_something [] name lt = absurd (omega arith)
 under_something (b ∷ bs) name lt = refl
+
+-- the bytes of a name under something
+pub length_under : (prefix name : List ℕ) → 0 < length prefix → length (under prefix name) ≡ length prefix + length name + 1
+length_under prefix name lt =
+    let e = length-append prefix name in
+    ap length (under_something prefix name lt) ∙ omega arith
 
 -- what follows the first byte of a text
 abbrev pub following : List ℕ → List ℕ

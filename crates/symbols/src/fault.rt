@@ -3,8 +3,8 @@ ghost use Rattle.std.specs.Prelude.{◌≡◌};
 ghost use Rattle.symbols.specs.Faults.{scan_number, scan_layer, memory_number, memory_layer, fault_number, fault_layer, fault_spot};
 ghost use Rattle.symbols.specs.declared.fault.Fault.TheVariants.{Scan, Memory};
 
-pub use treefile::fault::Spot;
-use treefile::fault::{Layer, Reason, Refusal};
+use treefile::fault::Layer;
+pub use treefile::fault::{Reason, Refusal, Spot};
 
 // What is wrong with a script, by the number that a listing prints.
 #[derive(Clone, Copy, Drop, PartialEq, Eq, Debug)]
