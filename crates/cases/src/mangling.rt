@@ -4,6 +4,7 @@ use crate::outcomes::*;
 use crate::places::Places;
 use std::test::Fail;
 use store::cursor::Cursor;
+use store::mangle::mangle_name;
 use symbols::table::SymbolTableType::{Comprehension, Function};
 use symbols::usage::SymbolUsage;
 
@@ -72,4 +73,24 @@ fn ways_to_enter(rt: HostRuntime) -> Result<(), Fail> {
     assert_eq!(rt; masks(&memory, 1, b"_A__c"), Masks(0x002));
     assert_eq!(rt; memory.counts().symbols, 4);
     Ok(())
+}
+
+// The part of a class's name that goes before a name, which may outlive the name.
+fn class_part<'c>(class: &'c [u8], name: &[u8]) -> &'c [u8] {
+    mangle_name(class, name).prefix
+}
+
+// The class's part stays when the name is gone.
+#[test]
+fn part_outlives_the_name(rt: HostRuntime) {
+    let private = {
+        let name = [b'_', b'_', b't'];
+        class_part(b"__A", &name)
+    };
+    let plain = {
+        let name = [b't'];
+        class_part(b"__A", &name)
+    };
+    assert!(rt; private == b"A".as_slice());
+    assert!(rt; plain.is_empty());
 }
