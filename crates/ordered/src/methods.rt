@@ -46,9 +46,11 @@ impl<'a, R> Ordered<'a, R> {
         R: Keyed<P>,
         ensures { Found (keys R.Keyed.key texts.now (listed self.now)) (R.Keyed.asked probe.now) result }
     {
-        self.as_slice()
+        let first = self
+            .as_slice()
             .iter()
-            .position(|item| item.matches(texts, probe))
+            .position(|item| item.matches(texts, probe))?;
+        Some(first)
     }
 
     // Keeps the first `n` records; all of them if there are fewer.
@@ -72,9 +74,13 @@ impl<'a, R: Copy> Ordered<'a, R> {
     pub fn set(&mut self, i: usize, item: R) -> Option<R>
         ensures { Replaced self.old self.new i item result }
     {
-        let found = self.get(i)?;
-        self.places[i] = item;
-        Some(found)
+        if i < self.count() {
+            let found = self.places[i];
+            self.places[i] = item;
+            Some(found)
+        } else {
+            None
+        }
     }
 
     // Appends `item`, and answers its index; or gives it back where there is no room for one more.
