@@ -16,7 +16,8 @@ impl Memory<'_> {
     pub(crate) fn find_text(&self, name: &Mangled<'_, '_>) -> Option<usize>
         ensures { result ≡ number_of (held self.now) (text_of name.now) }
     {
-        self.texts.find(self.bytes.as_slice(), name)
+        let i = self.texts.find(self.bytes.as_slice(), name)?;
+        Some(i)
     }
 
     // The place of the symbol of a text in a table, if there is one.
