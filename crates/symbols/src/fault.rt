@@ -60,7 +60,7 @@ impl Reason for ScanReason {
     ghost layer_of = { scan_layer };
 
     fn number(self) -> u8 {
-        self as u8
+        self as u8 // one of the scan's numbers
     }
 
     fn layer(self) -> Layer {
@@ -74,7 +74,7 @@ impl Reason for MemoryReason {
     ghost layer_of = { memory_layer };
 
     fn number(self) -> u8 {
-        self as u8
+        self as u8 // one of the memory's numbers
     }
 
     fn layer(self) -> Layer {
