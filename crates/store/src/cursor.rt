@@ -40,7 +40,7 @@ impl<'g, 'c> Drop for Within<'g, 'c> {
 
 impl<'c> Cursor<'c> {
     // `name` as it is entered where the cursor stands.
-    pub(crate) fn mangle<'n>(&self, name: &'n [u8]) -> Mangled<'c, 'n>
+    pub(crate) fn mangle(&self, name: &'c [u8]) -> Mangled<'c, 'c>
         ensures { text_of result ≡ mangled (class_of self.now) name.now }
     {
         mangle_name(self.class.unwrap_or_default(), name)

@@ -15,10 +15,10 @@ pub struct Mangled<'c, 'n> {
 }
 
 // The name alone.
-impl<'c, 'n> From<&'n [u8]> for Mangled<'c, 'n> {
+impl<'n> From<&'n [u8]> for Mangled<'n, 'n> {
     ghost from_gives = { λ name mangled. (mangled.prefix.now ≡ []) × (mangled.name ≡ name) };
 
-    fn from(name: &'n [u8]) -> Mangled<'c, 'n> {
+    fn from(name: &'n [u8]) -> Mangled<'n, 'n> {
         Mangled { prefix: b"", name }
     }
 }
